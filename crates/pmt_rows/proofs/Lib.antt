@@ -2,7 +2,9 @@ pub mod ChainLemmas
 pub mod LinkedLemmas
 pub mod ThreadLemmas
 pub mod FlushedLemmas
+mod PlaceLemmas
 pub mod RowLemmas
 pub mod WaitingLemmas
 pub mod OpenLemmas
-mod FencingLemmas
+pub mod FencingLemmas
+pub mod KeepingLemmas

@@ -1,13 +1,14 @@
 -- The lists of open flushes: reading one and writing one.
-use Rattle.std.proofs.Common.{◌≡◌, ◌≢◌, ℕ, zero, suc, ◌<◌, ◌≤◌, ◌⊎◌, inl, inr, List, [], ◌∷◌, ◌++◌, length, get_or, set, map, refl, sym, ap, subst, ◌∙◌, arith}
+use Rattle.std.proofs.Common.{◌≡◌, ◌≢◌, ℕ, zero, suc, ◌<◌, ◌≤◌, ◌⊎◌, inl, inr, Bool, true, false, List, [], ◌∷◌, ◌++◌, ◌-◌, length, take, get_or, set, map, refl, sym, ap, subst, ◌∙◌, arith}
 use Rattle.std.specs.Prelude.{◌==◌, if◌then◌else◌, All}
 use Rattle.std.proofs.lemmas.Bool.{cases_eq, eq-eqb, ne_eqb}
-use Rattle.std.proofs.lemmas.List.{get_or-map, get_or-set_same, get_or-set_other, get_or_append_left, length-append, length-map, map-append, map-set}
-use Rattle.std.proofs.lemmas.List.Elements.{All-push}
+use Rattle.std.proofs.lemmas.List.{get_or-map, get_or-set_same, get_or-set_other, get_or_append_left, length-append, length-map, map-append, map-set, take-map}
+use Rattle.std.proofs.lemmas.List.Elements.{All-push, All-take}
+use Rattle.std.proofs.Math.Seq.{take-append_seam}
 use Rattle.pmt_model.specs.Machine.{Act, Stores, Flushes, Clflushes, Fences, Asserts}
-use Rattle.pmt_safety.specs.Safety.{last_line_store}
+use Rattle.pmt_model.specs.Traces.{has_line}
 use Rattle.pmt_rows.specs.declared.open.OpenFlush.{OpenFlush}
-use Rattle.pmt_rows.specs.Waiting.{Waiting, waiting, list_at, waits, AreWaiting, WaitsOn}
+use Rattle.pmt_rows.specs.Waiting.{Waiting, waiting_by, list_at, waits, AreWaitingBy, LacksLast, WaitsOn}
 
 -- a list that is written anew
 pub set-own : {X Y : Type 0} (f : X → List Y) (xs : List X) (t : ℕ) (x : X) → t < length xs → get_or (map f (set xs t x)) t [] ≡ f x
@@ -45,28 +46,28 @@ pub within-more : (lines more : List ℕ) (flushes : List OpenFlush) → All (λ
 within-more lines more flushes within = λ k d h. omega (arith, within k d h, length-append lines more)
 
 -- the lists of open flushes after a flush
-pub lists-flush : (lines : List ℕ) (t : ℕ) (l : ℕ) (h : List Act) (old new : List (List OpenFlush)) (f : OpenFlush) → get_or lines f.place 0 ≡ l → f.number ≡ suc (length h) → f.store ≡ last_line_store l h →
-    list_at t new ≡ list_at t old ++ f ∷ [] → ((u : ℕ) → u ≢ t → list_at u new ≡ list_at u old) → (u : ℕ) → map (waits lines) (list_at u old) ≡ waiting u h →
-    map (waits lines) (list_at u new) ≡ waiting u (Flushes t l ∷ h)
-lists-flush lines t l h old new f line number stores own others u is = go (cases_eq t u)
+pub lists-flush : (last : ℕ → List Act → ℕ) (lines : List ℕ) (t : ℕ) (l : ℕ) (h : List Act) (old new : List (List OpenFlush)) (f : OpenFlush) → get_or lines f.place 0 ≡ l → f.number ≡ suc (length h) → f.store ≡ last l h →
+    list_at t new ≡ list_at t old ++ f ∷ [] → ((u : ℕ) → u ≢ t → list_at u new ≡ list_at u old) → (u : ℕ) → map (waits lines) (list_at u old) ≡ waiting_by last u h →
+    map (waits lines) (list_at u new) ≡ waiting_by last u (Flushes t l ∷ h)
+lists-flush last lines t l h old new f line number stores own others u is = go (cases_eq t u)
   where
     one : Waiting
-    one = record { number = suc (length h); line = l; store = last_line_store l h }
+    one = record { number = suc (length h); line = l; store = last l h }
 
-    go : (t ≡ u) ⊎ (t ≡ u → ⊥) → map (waits lines) (list_at u new) ≡ (if t == u then waiting u h ++ one ∷ [] else waiting u h)
+    go : (t ≡ u) ⊎ (t ≡ u → ⊥) → map (waits lines) (list_at u new) ≡ (if t == u then waiting_by last u h ++ one ∷ [] else waiting_by last u h)
     go (inl same) =
         let e = eq-eqb t u same in
         let here : list_at u new ≡ list_at u old ++ f ∷ [] = subst (λ v. list_at v new ≡ list_at v old ++ f ∷ []) same own in
-        let last : waits lines f ≡ one = cc (line, number, stores) in
-        rw e (ap (map (waits lines)) here ∙ map-append (waits lines) (list_at u old) (f ∷ []) ∙ rw (is, last) refl)
+        let newest : waits lines f ≡ one = cc (line, number, stores) in
+        rw e (ap (map (waits lines)) here ∙ map-append (waits lines) (list_at u old) (f ∷ []) ∙ rw (is, newest) refl)
     go (inr other) = let e = ne_eqb t u other in rw e (ap (map (waits lines)) (others u (λ same. other (sym same))) ∙ is)
 
 -- and after a fence
-pub lists-fence : (lines : List ℕ) (t : ℕ) (h : List Act) (old new : List (List OpenFlush)) → list_at t new ≡ [] → ((u : ℕ) → u ≢ t → list_at u new ≡ list_at u old) →
-    (u : ℕ) → map (waits lines) (list_at u old) ≡ waiting u h → map (waits lines) (list_at u new) ≡ waiting u (Fences t ∷ h)
-lists-fence lines t h old new own others u is = go (cases_eq t u)
+pub lists-fence : (last : ℕ → List Act → ℕ) (lines : List ℕ) (t : ℕ) (h : List Act) (old new : List (List OpenFlush)) → list_at t new ≡ [] → ((u : ℕ) → u ≢ t → list_at u new ≡ list_at u old) →
+    (u : ℕ) → map (waits lines) (list_at u old) ≡ waiting_by last u h → map (waits lines) (list_at u new) ≡ waiting_by last u (Fences t ∷ h)
+lists-fence last lines t h old new own others u is = go (cases_eq t u)
   where
-    go : (t ≡ u) ⊎ (t ≡ u → ⊥) → map (waits lines) (list_at u new) ≡ (if t == u then [] else waiting u h)
+    go : (t ≡ u) ⊎ (t ≡ u → ⊥) → map (waits lines) (list_at u new) ≡ (if t == u then [] else waiting_by last u h)
     go (inl same) = let e = eq-eqb t u same in rw e (ap (map (waits lines)) (subst (λ v. list_at v new ≡ []) same own))
     go (inr other) = let e = ne_eqb t u other in rw e (ap (map (waits lines)) (others u (λ same. other (sym same))) ∙ is)
 
@@ -88,6 +89,31 @@ each-fence P t old new own others u each = go (cases_eq t u)
     go (inl same) = subst (All P) (sym (subst (λ v. list_at v new ≡ []) same own)) (λ k d h. absurd (omega arith))
     go (inr other) = subst (All P) (sym (others u (λ same. other (sym same)))) each
 
+-- and where the last flush is taken back
+pub lists-back : (last : ℕ → List Act → ℕ) (lines : List ℕ) (t l : ℕ) (h : List Act) (old new : List (List OpenFlush)) → LacksLast t old new → (u : ℕ) → map (waits lines) (list_at u old) ≡ waiting_by last u (Flushes t l ∷ h) →
+    map (waits lines) (list_at u new) ≡ waiting_by last u h
+lists-back last lines t l h old new lacks u = go (cases_eq t u)
+  where
+    one : Waiting
+    one = record { number = suc (length h); line = l; store = last l h }
+
+    go : (t ≡ u) ⊎ (t ≡ u → ⊥) → map (waits lines) (list_at u old) ≡ (if t == u then waiting_by last u h ++ one ∷ [] else waiting_by last u h) → map (waits lines) (list_at u new) ≡ waiting_by last u h
+    go (inl same) is =
+        let here : list_at u new ≡ take (length (list_at u old) - 1) (list_at u old) = subst (λ v. list_at v new ≡ take (length (list_at v old) - 1) (list_at v old)) same lacks.own in
+        let flushes : map (waits lines) (list_at u old) ≡ waiting_by last u h ++ one ∷ [] = rw (eq-eqb t u same) at is in
+        let size : length (list_at u old) - 1 ≡ length (waiting_by last u h) = omega (arith, length-map (list_at u old) (waits lines), ap length flushes, length-append (waiting_by last u h) (one ∷ [])) in
+        ap (map (waits lines)) here ∙ sym (take-map (waits lines) (length (list_at u old) - 1) (list_at u old)) ∙ ap (take (length (list_at u old) - 1)) flushes
+        ∙ ap (λ n. take n (waiting_by last u h ++ one ∷ [])) size ∙ take-append_seam (waiting_by last u h) (one ∷ [])
+    go (inr other) is = ap (map (waits lines)) (lacks.others u (λ same. other (sym same))) ∙ (rw (ne_eqb t u other) at is)
+
+pub each-back : (P : OpenFlush → Type 0) (t : ℕ) (old new : List (List OpenFlush)) → LacksLast t old new → (u : ℕ) → All P (list_at u old) → All P (list_at u new)
+each-back P t old new lacks u each = go (cases_eq t u)
+  where
+    go : (t ≡ u) ⊎ (t ≡ u → ⊥) → All P (list_at u new)
+    go (inl same) =
+        subst (All P) (sym (subst (λ v. list_at v new ≡ take (length (list_at v old) - 1) (list_at v old)) same lacks.own)) (All-take P (length (list_at u old) - 1) (list_at u old) each)
+    go (inr other) = subst (All P) (sym (lacks.others u (λ same. other (sym same)))) each
+
 -- a list that is written as it was
 pub set-same_list : {X Y : Type 0} (f : X → List Y) (xs : List X) (t u : ℕ) (x y : X) → t < length xs → x ≡ get_or xs t x → f y ≡ f x → get_or (map f (set xs t y)) u [] ≡ get_or (map f xs) u []
 set-same_list f xs t u x y within read same = elim (cases_eq u t) [
@@ -95,27 +121,35 @@ set-same_list f xs t u x y within read same = elim (cases_eq u t) [
   | inr other ↦ set-others f xs t u y other
 ]
 
-other-act : (lines : List ℕ) (h : List Act) (lists : List (List OpenFlush)) (a : Act) → ((t l : ℕ) → a ≡ Flushes t l → ⊥) → ((t : ℕ) → a ≡ Fences t → ⊥) → AreWaiting lines h lists → AreWaiting lines (a ∷ h) lists
-other-act lines h lists (Stores l w) flush fence is = record { each = is.each; within = is.within }
-other-act lines h lists (Flushes t l) flush fence is = absurd (flush t l refl)
-other-act lines h lists (Clflushes l) flush fence is = record { each = is.each; within = is.within }
-other-act lines h lists (Fences t) flush fence is = absurd (fence t refl)
-other-act lines h lists Asserts flush fence is = record { each = is.each; within = is.within }
+line-more : (last : ℕ → List Act → ℕ) (l : ℕ) (lines : List ℕ) (h : List Act) (lists : List (List OpenFlush)) (b : Bool) → AreWaitingBy last lines h lists → AreWaitingBy last (if b then lines else lines ++ l ∷ []) h lists
+line-more last l lines h lists true is = is
+line-more last l lines h lists false is = record {
+  each = λ t. waits-more lines (l ∷ []) (list_at t lists) (is.within t) ∙ is.each t;
+  within = λ t. within-more lines (l ∷ []) (list_at t lists) (is.within t);
+}
 
-pub waits-on : WaitsOn
-waits-on = record {
+other-act : (last : ℕ → List Act → ℕ) (lines : List ℕ) (h : List Act) (lists : List (List OpenFlush)) (a : Act) → ((t l : ℕ) → a ≡ Flushes t l → ⊥) → ((t : ℕ) → a ≡ Fences t → ⊥) → AreWaitingBy last lines h lists → AreWaitingBy last lines (a ∷ h) lists
+other-act last lines h lists (Stores l w) flush fence is = record { each = is.each; within = is.within }
+other-act last lines h lists (Flushes t l) flush fence is = absurd (flush t l refl)
+other-act last lines h lists (Clflushes l) flush fence is = record { each = is.each; within = is.within }
+other-act last lines h lists (Fences t) flush fence is = absurd (fence t refl)
+other-act last lines h lists Asserts flush fence is = record { each = is.each; within = is.within }
+
+pub waits-on : (last : ℕ → List Act → ℕ) → WaitsOn last
+waits-on last = record {
   none = λ lines. record { each = λ t. refl; within = λ t k d h. absurd (omega arith) };
-  line = λ lines more h lists is. record {
-    each = λ t. waits-more lines more (list_at t lists) (is.within t) ∙ is.each t;
-    within = λ t. within-more lines more (list_at t lists) (is.within t);
-  };
+  line = λ l lines h lists is. line-more last l lines h lists (has_line l lines) is;
   flush = λ lines t l h f old new place line number store own others is. record {
-    each = λ u. lists-flush lines t l h old new f line number store own others u (is.each u);
+    each = λ u. lists-flush last lines t l h old new f line number store own others u (is.each u);
     within = λ u. each-flush (λ (g : OpenFlush). g.place < length lines) t old new f place own others u (is.within u);
   };
+  back = λ lines t l h old new lacks is. record {
+    each = λ u. lists-back last lines t l h old new lacks u (is.each u);
+    within = λ u. each-back (λ (g : OpenFlush). g.place < length lines) t old new lacks u (is.within u);
+  };
   fence = λ lines t h old new own others is. record {
-    each = λ u. lists-fence lines t h old new own others u (is.each u);
+    each = λ u. lists-fence last lines t h old new own others u (is.each u);
     within = λ u. each-fence (λ (g : OpenFlush). g.place < length lines) t old new own others u (is.within u);
   };
-  others = other-act;
+  others = other-act last;
 }

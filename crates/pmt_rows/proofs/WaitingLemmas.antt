@@ -1,5 +1,5 @@
 -- What a fence makes of the flushes that wait for it.
-use Rattle.std.proofs.Common.{◌≡◌, ◌≢◌, ℕ, suc, ◌<◌, ◌≤◌, Bool, true, false, List, [], ◌∷◌, ◌++◌, length, max, refl, ap, ◌∙◌, arith}
+use Rattle.std.proofs.Common.{◌≡◌, ◌≢◌, ℕ, suc, ◌≤◌, Bool, true, false, List, [], ◌∷◌, ◌++◌, length, max, refl, ap, ◌∙◌, arith}
 use Rattle.std.specs.Prelude.{◌==◌, ◌&&◌, ◌||◌, ◌↔◌, not, nat_lt, if◌then◌else◌}
 use Rattle.std.proofs.lemmas.Bool.{eq-eqb, eqb-true, ltb-true}
 use Rattle.pmt_model.specs.Machine.{Act, Stores, Flushes, Clflushes, Fences, Asserts}
@@ -83,22 +83,25 @@ fenced-safe t l (Asserts ∷ h) none = fenced-safe t l h none
 
 -- ---- One flush
 
-raise-own : (n k l s : ℕ) (safe : ℕ → ℕ) → k ≡ l → raise_one (record { number = n; line = k; store = s }) safe l ≡ max (safe l) s
-raise-own n k l s safe same = go (nat_lt (safe k) s) refl
+-- the last safe store of its line is the greater one then
+pub raise-max : (w : Waiting) (safe : ℕ → ℕ) (l : ℕ) → raise_one w safe l ≡ raised w.line (max (safe w.line) w.store) safe l
+raise-max w safe l = go (nat_lt (safe w.line) w.store) refl (w.line == l) refl
   where
-    there : safe k ≡ safe l
-    there = ap safe same
+    go : (b : Bool) → nat_lt (safe w.line) w.store ≡ b → (c : Bool) → (w.line == l) ≡ c → (if b then raised w.line w.store safe else safe) l ≡ (if w.line == l then max (safe w.line) w.store else safe l)
+    go true up true own = let less = ltb-true (safe w.line) w.store up in let most : w.store ≡ max (safe w.line) w.store = omega (arith, less) in rw own most
+    go true up false own = rw own refl
+    go false low true own =
+        let le : w.store ≤ safe w.line = grind (arith, low) in
+        let same : safe w.line ≡ safe l = ap safe (eqb-true w.line l own) in
+        let most : safe l ≡ max (safe w.line) w.store = omega (arith, le, same) in
+        rw own most
+    go false low false own = rw own refl
 
-    go : (b : Bool) → nat_lt (safe k) s ≡ b → (let f : ℕ → ℕ = if b then raised k s safe else safe in f l) ≡ max (safe l) s
-    go true below = let e : (k == l) ≡ true = eq-eqb k l same in rw e (let h : safe k < s = ltb-true (safe k) s below in omega (arith, there, h))
-    go false above = let h : s ≤ safe k = grind (arith, above) in omega (arith, there, h)
+raise-own : (n k l s : ℕ) (safe : ℕ → ℕ) → k ≡ l → raise_one (record { number = n; line = k; store = s }) safe l ≡ max (safe l) s
+raise-own n k l s safe same = raise-max (record { number = n; line = k; store = s }) safe l ∙ (let e : (k == l) ≡ true = eq-eqb k l same in rw e (ap (λ j. max (safe j) s) same))
 
 raise-other : (n k l s : ℕ) (safe : ℕ → ℕ) → (k == l) ≡ false → raise_one (record { number = n; line = k; store = s }) safe l ≡ safe l
-raise-other n k l s safe other = go (nat_lt (safe k) s)
-  where
-    go : (b : Bool) → (let f : ℕ → ℕ = if b then raised k s safe else safe in f l) ≡ safe l
-    go true = rw other refl
-    go false = refl
+raise-other n k l s safe other = raise-max (record { number = n; line = k; store = s }) safe l ∙ rw other refl
 
 raise-append : (ws : List Waiting) (w : Waiting) (safe : ℕ → ℕ) → raise_all (ws ++ w ∷ []) safe ≡ raise_all ws (raise_one w safe)
 raise-append [] w safe = refl

@@ -5,3 +5,4 @@ pub mod Flushed
 pub mod Known
 pub mod Waiting
 pub mod Fencing
+pub mod Keeping

@@ -1,6 +1,7 @@
 -- The flushes that wait for a fence.
-use Rattle.std.specs.Prelude.{◌≡◌, ◌≢◌, ℕ, suc, ◌<◌, ◌↔◌, ◌==◌, nat_lt, true, if◌then◌else◌, List, [], ◌∷◌, ◌++◌, length, slice_index_or, All, map}
+use Rattle.std.specs.Prelude.{◌≡◌, ◌≢◌, ℕ, suc, ◌-◌, ◌<◌, ◌↔◌, ◌==◌, nat_lt, true, if◌then◌else◌, List, [], ◌∷◌, ◌++◌, length, take, slice_index_or, All, map}
 use Rattle.pmt_model.specs.Machine.{Act, Stores, Flushes, Clflushes, Fences, Asserts}
+use Rattle.pmt_model.specs.Traces.{with_line}
 use Rattle.pmt_safety.specs.Safety.{last_line_store, safe_store, has_open_flush}
 use Rattle.pmt_rows.specs.Linked.{raised}
 use Rattle.pmt_rows.specs.declared.open.OpenFlush.{OpenFlush}
@@ -11,15 +12,19 @@ pub record Waiting : Type 0 where
   pub line : ℕ
   pub store : ℕ
 
--- The flushes by thread t since its last fence, the oldest first.
+-- The flushes by thread t since its last fence, the oldest first, where this tells the last store to a line.
+abbrev pub waiting_by : (ℕ → List Act → ℕ) → ℕ → List Act → List Waiting
+waiting_by last t [] = []
+waiting_by last t (Stores l w ∷ history) = waiting_by last t history
+waiting_by last t (Flushes u l ∷ history) =
+    if u == t then waiting_by last t history ++ record { number = suc (length history); line = l; store = last l history } ∷ [] else waiting_by last t history
+waiting_by last t (Clflushes l ∷ history) = waiting_by last t history
+waiting_by last t (Fences u ∷ history) = if u == t then [] else waiting_by last t history
+waiting_by last t (Asserts ∷ history) = waiting_by last t history
+
+-- By the numbers of stores.
 abbrev pub waiting : ℕ → List Act → List Waiting
-waiting t [] = []
-waiting t (Stores l w ∷ history) = waiting t history
-waiting t (Flushes u l ∷ history) =
-    if u == t then waiting t history ++ record { number = suc (length history); line = l; store = last_line_store l history } ∷ [] else waiting t history
-waiting t (Clflushes l ∷ history) = waiting t history
-waiting t (Fences u ∷ history) = if u == t then [] else waiting t history
-waiting t (Asserts ∷ history) = waiting t history
+waiting t h = waiting_by last_line_store t h
 
 -- One of them takes the last safe store of its line to the store that it marks, where that is later.
 abbrev pub raise_one : Waiting → (ℕ → ℕ) → ℕ → ℕ
@@ -45,17 +50,27 @@ abbrev pub waits : List ℕ → OpenFlush → Waiting
 waits lines f = record { number = f.number; line = slice_index_or lines f.place 0; store = f.store }
 
 -- The lists are those of the flushes that wait, each with the place of its line among these lines.
-pub record AreWaiting (lines : List ℕ) (h : List Act) (lists : List (List OpenFlush)) : Type 0 where
-  pub each : (t : ℕ) → map (waits lines) (list_at t lists) ≡ waiting t h
+pub record AreWaitingBy (last : ℕ → List Act → ℕ) (lines : List ℕ) (h : List Act) (lists : List (List OpenFlush)) : Type 0 where
+  pub each : (t : ℕ) → map (waits lines) (list_at t lists) ≡ waiting_by last t h
   pub within : (t : ℕ) → All (λ f. f.place < length lines) (list_at t lists)
 
--- None before the first act. One more line changes none. A flush is one more of its thread, a fence takes its thread's away, and other
--- acts leave all.
-pub record WaitsOn : Type 0 where
-  pub none : (lines : List ℕ) → AreWaiting lines [] []
-  pub line : (lines more : List ℕ) (h : List Act) (lists : List (List OpenFlush)) → AreWaiting lines h lists → AreWaiting (lines ++ more) h lists
-  pub flush : (lines : List ℕ) (t l : ℕ) (h : List Act) (f : OpenFlush) (old new : List (List OpenFlush)) → f.place < length lines → slice_index_or lines f.place 0 ≡ l → f.number ≡ suc (length h) → f.store ≡ last_line_store l h →
-      list_at t new ≡ list_at t old ++ f ∷ [] → ((u : ℕ) → u ≢ t → list_at u new ≡ list_at u old) → AreWaiting lines h old → AreWaiting lines (Flushes t l ∷ h) new
-  pub fence : (lines : List ℕ) (t : ℕ) (h : List Act) (old new : List (List OpenFlush)) → list_at t new ≡ [] → ((u : ℕ) → u ≢ t → list_at u new ≡ list_at u old) → AreWaiting lines h old →
-      AreWaiting lines (Fences t ∷ h) new
-  pub others : (lines : List ℕ) (h : List Act) (lists : List (List OpenFlush)) (a : Act) → ((t l : ℕ) → a ≡ Flushes t l → ⊥) → ((t : ℕ) → a ≡ Fences t → ⊥) → AreWaiting lines h lists → AreWaiting lines (a ∷ h) lists
+abbrev pub AreWaiting : List ℕ → List Act → List (List OpenFlush) → Type 0
+AreWaiting lines h lists = AreWaitingBy last_line_store lines h lists
+
+-- The list of thread t lacks its last flush now, and the others are as they were.
+pub record LacksLast (t : ℕ) (old new : List (List OpenFlush)) : Type 0 where
+  pub own : list_at t new ≡ take (length (list_at t old) - 1) (list_at t old)
+  pub others : (u : ℕ) → u ≢ t → list_at u new ≡ list_at u old
+
+-- None before the first act. One more line changes none. A flush is one more of its thread, which can be taken back, a fence takes its
+-- thread's away, and other acts leave all.
+pub record WaitsOn (last : ℕ → List Act → ℕ) : Type 0 where
+  pub none : (lines : List ℕ) → AreWaitingBy last lines [] []
+  pub line : (l : ℕ) (lines : List ℕ) (h : List Act) (lists : List (List OpenFlush)) → AreWaitingBy last lines h lists → AreWaitingBy last (with_line l lines) h lists
+  pub flush : (lines : List ℕ) (t l : ℕ) (h : List Act) (f : OpenFlush) (old new : List (List OpenFlush)) → f.place < length lines → slice_index_or lines f.place 0 ≡ l → f.number ≡ suc (length h) → f.store ≡ last l h →
+      list_at t new ≡ list_at t old ++ f ∷ [] → ((u : ℕ) → u ≢ t → list_at u new ≡ list_at u old) → AreWaitingBy last lines h old → AreWaitingBy last lines (Flushes t l ∷ h) new
+  pub back : (lines : List ℕ) (t l : ℕ) (h : List Act) (old new : List (List OpenFlush)) → LacksLast t old new → AreWaitingBy last lines (Flushes t l ∷ h) old → AreWaitingBy last lines h new
+  pub fence : (lines : List ℕ) (t : ℕ) (h : List Act) (old new : List (List OpenFlush)) → list_at t new ≡ [] → ((u : ℕ) → u ≢ t → list_at u new ≡ list_at u old) → AreWaitingBy last lines h old →
+      AreWaitingBy last lines (Fences t ∷ h) new
+  pub others : (lines : List ℕ) (h : List Act) (lists : List (List OpenFlush)) (a : Act) → ((t l : ℕ) → a ≡ Flushes t l → ⊥) → ((t : ℕ) → a ≡ Fences t → ⊥) → AreWaitingBy last lines h lists →
+      AreWaitingBy last lines (a ∷ h) lists

@@ -41,12 +41,10 @@ fn raise(rows: &mut Rows, links: &mut Links, flush: OpenFlush, number: u32) -> b
     ensures raised { (T : Recording) (lines : List ℕ) (n : ℕ) (safe : ℕ → ℕ) → IsAtFence T lines n safe rows.old links.old → IsRaisable T lines n flush → number ≡ suc n → IsAtFence T lines n (raise_one (waits lines flush) safe) rows.new links.new }
     ensures tells { (T : Recording) (lines : List ℕ) (n : ℕ) (safe : ℕ → ℕ) → IsAtFence T lines n safe rows.old links.old → IsRaisable T lines n flush → result ≡ nat_lt (safe (slice_index_or lines flush.place 0)) flush.store }
 {
-    let place = flush.place as usize;
-    let safe = rows.row(place).safe;
+    let safe = rows.raise(flush.place as usize, flush.store);
     if flush.store <= safe {
         return false;
     }
     links.raise(flush.store, safe, number);
-    rows.raise(place, flush.store);
     true
 }

@@ -1,6 +1,6 @@
 //! Of each thread, its flushes since its last fence.
-ghost use Rattle.std.specs.Prelude.{◌≡◌, ◌≢◌, ◌<◌, ℕ, [], ◌∷◌, ◌++◌, length, OnOk, OnErr};
-ghost use Rattle.pmt_rows.specs.Waiting.{list_at};
+ghost use Rattle.std.specs.Prelude.{◌≡◌, ◌≢◌, ◌<◌, ℕ, [], ◌∷◌, ◌++◌, length, IfOk, OnOk, OnErr};
+ghost use Rattle.pmt_rows.specs.Waiting.{LacksLast, list_at};
 
 use pmt_model::OutOfMemory;
 use std::alloc::Global;
@@ -74,6 +74,30 @@ impl OpenFlushes {
         if (thread as usize) < self.lists.len() {
             self.lists[thread as usize].clear();
         }
+    }
+
+    /// The last flush of the thread is taken back.
+    pub fn take_back(&mut self, thread: u8)
+        ensures { LacksLast thread self.old self.new }
+    {
+        if (thread as usize) < self.lists.len() {
+            self.lists[thread as usize].pop();
+        }
+    }
+
+    /// The same lists.
+    ///
+    /// # Errors
+    /// Where memory was refused.
+    pub fn copy(&self) -> Result<Self, OutOfMemory>
+        ensures { IfOk result (λ copy. copy ≡ self.now) }
+    {
+        let alloc = *self.lists.allocator();
+        let mut lists = Vec::new(alloc);
+        for list in &self.lists {
+            lists.push(list.as_slice().to_vec(alloc)?)?;
+        }
+        Ok(OpenFlushes { lists })
     }
 
     // Makes a list for the thread.

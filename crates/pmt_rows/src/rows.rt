@@ -1,12 +1,10 @@
 //! Of each line a row.
-ghost use Rattle.std.specs.Prelude.{◌≡◌, ℕ, suc, ◌<◌, ◌^◌, List, [], ◌∷◌, length, IfOk, OnOk, OnErr};
-ghost use Rattle.pmt_model.specs.Machine.{Act, Stores, Flushes, Clflushes};
+ghost use Rattle.std.specs.Prelude.{◌≡◌, ℕ, ◌<◌, ◌^◌, List, [], length, max, nat_eq, IfOk, OnOk, OnErr};
+ghost use Rattle.std.specs.List.{IsDistinct};
 ghost use Rattle.pmt_model.specs.Traces.{with_line};
-ghost use Rattle.pmt_model.specs.Values.{Written};
-ghost use Rattle.pmt_safety.specs.Safety.{last_line_store};
 ghost use Rattle.pmt_rows.specs.Linked.{raised};
 ghost use Rattle.pmt_tables.specs.Places.{IsPlaceOf};
-ghost use Rattle.pmt_rows.specs.Known.{IsKnown, IsKnownWith, row_after};
+ghost use Rattle.pmt_rows.specs.Known.{AreRows, row_by};
 
 use pmt_model::OutOfMemory;
 use pmt_tables::LinePlaces;
@@ -37,7 +35,7 @@ pub struct Rows {
 impl Rows {
     /// Before the first act.
     pub fn new(alloc: Global) -> Self
-        ensures { IsKnown [] result }
+        ensures { AreRows [] (λ _. 0) (λ _. 0) (λ _. 0) result }
     {
         Rows {
             places: LinePlaces::new(alloc),
@@ -67,8 +65,8 @@ impl Rows {
     pub fn place_of(&mut self, line: u64) -> Result<usize, OutOfMemory>
         ensures here { IfOk result (λ place. IsPlaceOf line place self.new.places) }
         ensures small { IfOk result (λ place. place < 2 ^ 32) }
-        ensures known { OnOk result ((lines : List ℕ) (h : List Act) (safe : ℕ → ℕ) → IsKnownWith lines h safe self.old → IsKnownWith (with_line line lines) h safe self.new) }
-        ensures kept { OnErr result ((lines : List ℕ) (h : List Act) (safe : ℕ → ℕ) → IsKnownWith lines h safe self.old → IsKnownWith lines h safe self.new) }
+        ensures known { OnOk result ((lines : List ℕ) (last safe flush : ℕ → ℕ) → AreRows lines last safe flush self.old → AreRows (with_line line lines) last safe flush self.new) }
+        ensures kept { OnErr result ((lines : List ℕ) (last safe flush : ℕ → ℕ) → AreRows lines last safe flush self.old → AreRows lines last safe flush self.new) }
     {
         match self.places.recent(line) {
             Some(place) => Ok(place),
@@ -80,8 +78,8 @@ impl Rows {
     fn look_up(&mut self, line: u64) -> Result<usize, OutOfMemory>
         ensures here { IfOk result (λ place. IsPlaceOf line place self.new.places) }
         ensures small { IfOk result (λ place. place < 2 ^ 32) }
-        ensures known { OnOk result ((lines : List ℕ) (h : List Act) (safe : ℕ → ℕ) → IsKnownWith lines h safe self.old → IsKnownWith (with_line line lines) h safe self.new) }
-        ensures kept { OnErr result ((lines : List ℕ) (h : List Act) (safe : ℕ → ℕ) → IsKnownWith lines h safe self.old → IsKnownWith lines h safe self.new) }
+        ensures known { OnOk result ((lines : List ℕ) (last safe flush : ℕ → ℕ) → AreRows lines last safe flush self.old → AreRows (with_line line lines) last safe flush self.new) }
+        ensures kept { OnErr result ((lines : List ℕ) (last safe flush : ℕ → ℕ) → AreRows lines last safe flush self.old → AreRows lines last safe flush self.new) }
     {
         self.rows.reserve(1)?;
         let (place, is_new) = self.places.insert(line)?;
@@ -95,7 +93,7 @@ impl Rows {
     #[inline(always)]
     pub fn row(&self, place: usize) -> Row
         requires { place < length self.now.rows.items }
-        ensures { (lines : List ℕ) (h : List Act) (safe : ℕ → ℕ) (l : ℕ) → IsPlaceOf l place lines → IsKnownWith lines h safe self.now → result ≡ row_after safe h l }
+        ensures { (lines : List ℕ) (last safe flush : ℕ → ℕ) (l : ℕ) → IsPlaceOf l place lines → AreRows lines last safe flush self.now → result ≡ row_by last safe flush l }
     {
         self.rows[place]
     }
@@ -104,7 +102,7 @@ impl Rows {
     #[inline(always)]
     pub fn store(&mut self, place: usize, number: u32)
         requires { place < length self.old.rows.items }
-        ensures { (lines : List ℕ) (h : List Act) (safe : ℕ → ℕ) (l : ℕ) (w : Written) → number ≡ suc (length h) → IsPlaceOf l place lines → IsKnownWith lines h safe self.old → IsKnownWith lines (Stores l w ∷ h) safe self.new }
+        ensures { (lines : List ℕ) (last safe flush : ℕ → ℕ) (l : ℕ) → IsPlaceOf l place lines → AreRows lines last safe flush self.old → AreRows lines (raised l number last) safe flush self.new }
     {
         let row = &mut self.rows[place];
         row.last_store = number;
@@ -114,7 +112,7 @@ impl Rows {
     #[inline(always)]
     pub fn flush(&mut self, place: usize, number: u32)
         requires { place < length self.old.rows.items }
-        ensures { (lines : List ℕ) (h : List Act) (safe : ℕ → ℕ) (l t : ℕ) → number ≡ suc (length h) → IsPlaceOf l place lines → IsKnownWith lines h safe self.old → IsKnownWith lines (Flushes t l ∷ h) safe self.new }
+        ensures { (lines : List ℕ) (last safe flush : ℕ → ℕ) (l : ℕ) → IsPlaceOf l place lines → AreRows lines last safe flush self.old → AreRows lines last safe (raised l number flush) self.new }
     {
         let row = &mut self.rows[place];
         row.last_flush = number;
@@ -124,7 +122,7 @@ impl Rows {
     #[inline(always)]
     pub fn clflush(&mut self, place: usize, number: u32)
         requires { place < length self.old.rows.items }
-        ensures { (lines : List ℕ) (h : List Act) (safe : ℕ → ℕ) (l : ℕ) → number ≡ suc (length h) → IsPlaceOf l place lines → IsKnownWith lines h safe self.old → IsKnownWith lines (Clflushes l ∷ h) (raised l (last_line_store l h) safe) self.new }
+        ensures { (lines : List ℕ) (last safe flush : ℕ → ℕ) (l : ℕ) → IsPlaceOf l place lines → AreRows lines last safe flush self.old → AreRows lines last (raised l (last l) safe) (raised l number flush) self.new }
     {
         let row = &mut self.rows[place];
         *row = Row {
@@ -134,13 +132,41 @@ impl Rows {
         };
     }
 
-    /// This store to the line at this place is the last safe one from now on.
+    /// The last safe store of the line at this place is this one, where that is later: which it was.
     #[inline(always)]
-    pub fn raise(&mut self, place: usize, store: u32)
+    pub fn raise(&mut self, place: usize, store: u32) -> u32
         requires { place < length self.old.rows.items }
-        ensures { (lines : List ℕ) (h : List Act) (safe : ℕ → ℕ) (l : ℕ) → IsPlaceOf l place lines → IsKnownWith lines h safe self.old → IsKnownWith lines h (raised l store safe) self.new }
+        ensures raised { (lines : List ℕ) (last safe flush : ℕ → ℕ) (l : ℕ) → IsPlaceOf l place lines → AreRows lines last safe flush self.old → AreRows lines last (raised l (max (safe l) store) safe) flush self.new }
+        ensures was { (lines : List ℕ) (last safe flush : ℕ → ℕ) (l : ℕ) → IsPlaceOf l place lines → AreRows lines last safe flush self.old → result ≡ safe l }
     {
         let row = &mut self.rows[place];
-        row.safe = store;
+        let safe = row.safe;
+        row.safe = safe.max(store);
+        safe
     }
+
+    /// The same rows.
+    ///
+    /// # Errors
+    /// Where memory was refused.
+    pub fn copy(&self) -> Result<Self, OutOfMemory>
+        ensures { IfOk result (λ copy. (lines : List ℕ) (last safe flush : ℕ → ℕ) → AreRows lines last safe flush self.now → AreRows lines last safe flush copy) }
+    {
+        let alloc = *self.rows.allocator();
+        Ok(Rows {
+            places: copied(&self.places, alloc)?,
+            rows: self.rows.as_slice().to_vec(alloc)?,
+        })
+    }
+}
+
+// The same lines, each at the same place.
+fn copied(places: &LinePlaces, alloc: Global) -> Result<LinePlaces, OutOfMemory>
+    ensures { IfOk result (λ copy. IsDistinct nat_eq places.now → copy ≡ places.now) }
+{
+    let mut copy = LinePlaces::new(alloc);
+    for line in places.lines() {
+        copy.insert(*line)?;
+    }
+    Ok(copy)
 }

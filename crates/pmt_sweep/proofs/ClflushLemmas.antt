@@ -5,7 +5,7 @@ use Rattle.std.proofs.lemmas.Bool.{eq-eqb, ltb-true, both_ways, cases_lt}
 use Rattle.pmt_model.specs.Values.{Written}
 use Rattle.pmt_model.specs.Machine.{Stores, Clflushes, Asserts}
 use Rattle.pmt_model.specs.Traces.{Recording, IsAct, history}
-use Rattle.pmt_model.specs.Findings.{IsRedundantClflush}
+use Rattle.pmt_model.specs.Findings.{IsRedundantClflush, last_flush}
 use Rattle.pmt_model.specs.Keeping.{IsKept}
 use Rattle.pmt_laws.proofs.Histories.{history-act}
 use Rattle.pmt_safety.specs.Safety.{last_line_store, last_line_store_at, safe_store, safe_store_at}
@@ -17,8 +17,8 @@ use Rattle.pmt_rows.specs.Linked.{AreLinked, AreLinkedAt, raised}
 use Rattle.pmt_rows.proofs.LinkedLemmas.{each_linked, raise_links}
 use Rattle.pmt_tables.specs.Places.{IsPlaceOf}
 use Rattle.pmt_rows.specs.declared.rows.Rows.{Rows}
-use Rattle.pmt_rows.specs.Known.{IsKnownWith}
-use Rattle.pmt_rows.proofs.RowLemmas.{kept-others, kept-same}
+use Rattle.pmt_rows.specs.Known.{AreRows, IsKnownWith}
+use Rattle.pmt_rows.proofs.RowLemmas.{cleared-known}
 use Rattle.pmt_rows.specs.Waiting.{AreWaiting}
 use Rattle.pmt_rows.proofs.OpenLemmas.{waits-on}
 use Rattle.pmt_sweep.specs.declared.known.Known.{Known}
@@ -27,7 +27,7 @@ use Rattle.pmt_sweep.specs.First.{AreFlushedOf}
 use Rattle.pmt_sweep.specs.Known.{IsKnownAmong}
 use Rattle.pmt_sweep.proofs.WordsLemmas.{words-other}
 use Rattle.pmt_sweep.proofs.FirstLemmas.{flushed-clflush, flushed-assertion}
-use Rattle.pmt_sweep.proofs.KnownLemmas.{stepped}
+use Rattle.pmt_sweep.proofs.KnownLemmas.{length-before, stepped}
 
 -- entries are told by the last safe store of each line, however that is said
 pub linked-same : (T : Recording) (n : ℕ) (safe now : ℕ → ℕ) (links : List ℕ) → ((m : ℕ) → now m ≡ safe m) → AreLinked T n safe links → AreLinked T n now links
@@ -80,10 +80,11 @@ module _ (T : Recording) (n l place : ℕ) (lines : List ℕ) (k : Known) (is : 
       go true e = ap (λ j. last_line_store j (history T n)) (sym (eqb-true l m e))
       go false e = refl
 
-  pub cleared-rows : (rows : Rows) → IsKnownWith lines (Clflushes l ∷ history T n) (raised l (last_line_store l (history T n)) (λ m. safe_store_at T m n)) rows → IsKnownWith lines (history T (suc n)) (λ m. safe_store_at T m (suc n)) rows
-  cleared-rows rows known =
-      kept-same lines (history T (suc n)) (raised l (last_line_store_at T l n) (λ m. safe_store_at T m n)) (λ m. safe_store_at T m (suc n)) rows safe-then
-      (stepped (λ h. IsKnownWith lines h (raised l (last_line_store_at T l n) (λ m. safe_store_at T m n)) rows) T n (Clflushes l) next known)
+  pub cleared-rows : (number : ℕ) (rows : Rows) → number ≡ suc n → AreRows lines (λ m. last_line_store_at T m n) (raised l (last_line_store_at T l n) (λ m. safe_store_at T m n)) (raised l number (λ m. last_flush m (history T n))) rows →
+      IsKnownWith lines (history T (suc n)) (λ m. safe_store_at T m (suc n)) rows
+  cleared-rows number rows numbered known =
+      stepped (λ h. IsKnownWith lines h (λ m. safe_store m h) rows) T n (Clflushes l) next
+      (cleared-known lines (history T n) l number rows (numbered ∙ ap suc (sym (length-before T n (Clflushes l) next))) known)
 
   pub cleared-links : (safe last number : ℕ) (middle links : List ℕ) → safe ≡ safe_store_at T l n → last ≡ last_line_store_at T l n → number ≡ suc n → ((stores : List ℕ) → IsChain k.links safe last stores → middle ≡ with_place k.links stores number) →
       links ≡ middle ++ number ∷ [] → AreLinkedAt T (suc n) links
@@ -108,7 +109,7 @@ module _ (T : Recording) (n l place : ℕ) (lines : List ℕ) (k : Known) (is : 
   cleared-flushed = stepped (λ h. AreFlushedOf lines h k.flushed.first.items k.flushed.others.lines.items) T n (Clflushes l) next (flushed-clflush lines l (history T n) k.flushed.first.items k.flushed.others.lines.items is.flushed)
 
   pub cleared-waiting : AreWaiting lines (history T (suc n)) k.waiting
-  cleared-waiting = stepped (λ h. AreWaiting lines h k.waiting) T n (Clflushes l) next (waits-on.others lines (history T n) k.waiting (Clflushes l) (λ t m e. cc) (λ t e. cc) is.waiting)
+  cleared-waiting = stepped (λ h. AreWaiting lines h k.waiting) T n (Clflushes l) next ((waits-on last_line_store).others lines (history T n) k.waiting (Clflushes l) (λ t m e. cc) (λ t e. cc) is.waiting)
 
   pub clears-kept : (safe last : ℕ) → safe ≡ safe_store_at T l n → last ≡ last_line_store_at T l n → (nat_lt safe last ≡ true) ↔ IsKept T (suc n)
   clears-kept safe last safe_is last_is =
@@ -133,7 +134,7 @@ module _ (T : Recording) (n l place : ℕ) (lines : List ℕ) (k : Known) (is : 
 
 module _ (T : Recording) (n : ℕ) (lines : List ℕ) (k : Known) (is : IsKnownAmong T n lines k) (next : IsAct T (suc n) Asserts) where
   pub judged-rows : IsKnownWith lines (history T (suc n)) (λ m. safe_store_at T m (suc n)) k.rows
-  judged-rows = stepped (λ h. IsKnownWith lines h (λ m. safe_store m h) k.rows) T n Asserts next (kept-others.assertion lines (history T n) (λ m. safe_store_at T m n) k.rows is.rows)
+  judged-rows = stepped (λ h. IsKnownWith lines h (λ m. safe_store m h) k.rows) T n Asserts next is.rows
 
   pub judged-words : AreWordsOf T (suc n) k.words_of_line lines k.words
   judged-words = words-other T n k.words_of_line lines k.words Asserts next (λ m w e. cc) is.words
@@ -148,4 +149,4 @@ module _ (T : Recording) (n : ℕ) (lines : List ℕ) (k : Known) (is : IsKnownA
   judged-flushed = stepped (λ h. AreFlushedOf lines h k.flushed.first.items k.flushed.others.lines.items) T n Asserts next (flushed-assertion lines (history T n) k.flushed.first.items k.flushed.others.lines.items is.flushed)
 
   pub judged-waiting : AreWaiting lines (history T (suc n)) k.waiting
-  judged-waiting = stepped (λ h. AreWaiting lines h k.waiting) T n Asserts next (waits-on.others lines (history T n) k.waiting Asserts (λ t m e. cc) (λ t e. cc) is.waiting)
+  judged-waiting = stepped (λ h. AreWaiting lines h k.waiting) T n Asserts next ((waits-on last_line_store).others lines (history T n) k.waiting Asserts (λ t m e. cc) (λ t e. cc) is.waiting)

@@ -10,9 +10,9 @@ use Rattle.pmt_model.specs.Traces.{Recording, IsAct, history, lines_of, has_line
 use Rattle.pmt_model.specs.Findings.{IsOverwritten, IsRedundantFlush, last_flush}
 use Rattle.pmt_model.specs.Selections.{IsRising}
 use Rattle.pmt_laws.proofs.Histories.{act-within, history-act, length-history}
-use Rattle.pmt_safety.specs.Safety.{has_flushed, last_line_store_at, safe_store, safe_store_at}
+use Rattle.pmt_safety.specs.Safety.{has_flushed, last_line_store, last_line_store_at, safe_store, safe_store_at}
 use Rattle.pmt_safety.proofs.RedundantLemmas.{redundant_flush_by_stores}
-use Rattle.pmt_rows.specs.Linked.{AreLinked, AreLinkedAt}
+use Rattle.pmt_rows.specs.Linked.{AreLinked, AreLinkedAt, raised}
 use Rattle.pmt_rows.proofs.LinkedLemmas.{each_linked}
 use Rattle.pmt_tables.specs.Places.{IsPlaceOf}
 use Rattle.pmt_tables.specs.declared.words.Overwrite.{Overwrite}
@@ -21,7 +21,8 @@ use Rattle.pmt_tables.specs.Written.{IsWordAt, WritesIn}
 use Rattle.pmt_tables.proofs.WrittenLemmas.{overwritten_by_word}
 use Rattle.pmt_rows.specs.declared.rows.Row.{Row}
 use Rattle.pmt_rows.specs.declared.rows.Rows.{Rows}
-use Rattle.pmt_rows.specs.Known.{row_after, IsKnownWith}
+use Rattle.pmt_rows.specs.Known.{row_after, AreRows, IsKnownWith}
+use Rattle.pmt_rows.proofs.RowLemmas.{stored-known, flushed-known}
 use Rattle.pmt_rows.specs.Waiting.{AreWaiting, list_at}
 use Rattle.pmt_rows.specs.declared.open.OpenFlush.{OpenFlush}
 use Rattle.pmt_rows.proofs.OpenLemmas.{waits-on}
@@ -72,11 +73,7 @@ module _ (T : Recording) (n l : ℕ) (lines : List ℕ) (k : Known) (rows : Rows
       go false e = flushed-new lines l (history T n) k.flushed.first.items k.flushed.others.lines.items (no-flush e) is.flushed
 
   pub placed-waiting : AreWaiting (with_line l lines) (history T n) k.waiting
-  placed-waiting = go (has_line l lines)
-    where
-      go : (b : Bool) → AreWaiting (if b then lines else lines ++ l ∷ []) (history T n) k.waiting
-      go true = is.waiting
-      go false = waits-on.line lines (l ∷ []) (history T n) k.waiting is.waiting
+  placed-waiting = (waits-on last_line_store).line l lines (history T n) k.waiting is.waiting
 
   pub placed-words : (words : List (List ℕ)) → length k.rows.rows.items < length rows.rows.items → AreAdded k.words_of_line k.words words → AreWordsOf T n k.words_of_line (with_line l lines) words
   placed-words words more added =
@@ -111,8 +108,11 @@ module _ (T : Recording) (n l place word low high : ℕ) (w : Written) (lines : 
   pub here : IsWordAt T n (word_address T.format.line_size l word) (last_at k.words (place * k.words_of_line + word))
   here = is.words.each l place word at within
 
-  pub stored-rows : (rows : Rows) → IsKnownWith lines (Stores l w ∷ history T n) (λ m. safe_store_at T m n) rows → IsKnownWith lines (history T (suc n)) (λ m. safe_store_at T m (suc n)) rows
-  stored-rows rows known = stepped (λ h. IsKnownWith lines h (λ m. safe_store m h) rows) T n (Stores l w) next known
+  pub stored-rows : (number : ℕ) (rows : Rows) → number ≡ suc n → AreRows lines (raised l number (λ m. last_line_store_at T m n)) (λ m. safe_store_at T m n) (λ m. last_flush m (history T n)) rows →
+      IsKnownWith lines (history T (suc n)) (λ m. safe_store_at T m (suc n)) rows
+  stored-rows number rows numbered known =
+      stepped (λ h. IsKnownWith lines h (λ m. safe_store m h) rows) T n (Stores l w) next
+      (stored-known lines (history T n) l number w rows (numbered ∙ ap suc (sym (length-before T n (Stores l w) next))) known)
 
   pub stored-links : (last : ℕ) (links : List ℕ) → last ≡ last_line_store_at T l n → links ≡ k.links ++ last ∷ [] → AreLinkedAt T (suc n) links
   stored-links last links e pushed =
@@ -124,7 +124,7 @@ module _ (T : Recording) (n l place word low high : ℕ) (w : Written) (lines : 
   stored-flushed = stepped (λ h. AreFlushedOf lines h k.flushed.first.items k.flushed.others.lines.items) T n (Stores l w) next (flushed-store lines l w (history T n) k.flushed.first.items k.flushed.others.lines.items is.flushed)
 
   pub stored-waiting : AreWaiting lines (history T (suc n)) k.waiting
-  stored-waiting = stepped (λ h. AreWaiting lines h k.waiting) T n (Stores l w) next (waits-on.others lines (history T n) k.waiting (Stores l w) (λ t m e. cc) (λ t e. cc) is.waiting)
+  stored-waiting = stepped (λ h. AreWaiting lines h k.waiting) T n (Stores l w) next ((waits-on last_line_store).others lines (history T n) k.waiting (Stores l w) (λ t m e. cc) (λ t e. cc) is.waiting)
 
   pub stored-over : (number flush : ℕ) (old new : List Overwrite) → number ≡ suc n → flush ≡ last_flush l (history T n) → AddsOverwritten flush number low high (last_at k.words (place * k.words_of_line + word)) old new →
       AddsOverwrittenBy T (suc n) old new
@@ -179,8 +179,11 @@ or-right true c e = refl
 or-right false c e = e
 
 module _ (T : Recording) (n l t place : ℕ) (lines : List ℕ) (k : Known) (is : IsKnownAmong T n lines k) (next : IsAct T (suc n) (Flushes t l)) (at : IsPlaceOf l place lines) where
-  pub flushed-rows : (rows : Rows) → IsKnownWith lines (Flushes t l ∷ history T n) (λ m. safe_store_at T m n) rows → IsKnownWith lines (history T (suc n)) (λ m. safe_store_at T m (suc n)) rows
-  flushed-rows rows known = stepped (λ h. IsKnownWith lines h (λ m. safe_store m h) rows) T n (Flushes t l) next known
+  pub flushed-rows : (number : ℕ) (rows : Rows) → number ≡ suc n → AreRows lines (λ m. last_line_store_at T m n) (λ m. safe_store_at T m n) (raised l number (λ m. last_flush m (history T n))) rows →
+      IsKnownWith lines (history T (suc n)) (λ m. safe_store_at T m (suc n)) rows
+  flushed-rows number rows numbered known =
+      stepped (λ h. IsKnownWith lines h (λ m. safe_store m h) rows) T n (Flushes t l) next
+      (flushed-known lines (history T n) t l number rows (numbered ∙ ap suc (sym (length-before T n (Flushes t l) next))) known)
 
   pub flushed-words : AreWordsOf T (suc n) k.words_of_line lines k.words
   flushed-words = words-other T n k.words_of_line lines k.words (Flushes t l) next (λ m w e. cc) is.words
@@ -200,7 +203,7 @@ module _ (T : Recording) (n l t place : ℕ) (lines : List ℕ) (k : Known) (is 
       let within : f.place < length lines = omega (arith, placed, slice_get_within lines place l at) in
       let line : slice_index_or lines f.place 0 ≡ l = ap (λ p. slice_index_or lines p 0) placed ∙ get_or_from_slice_get lines place l 0 at in
       let many = length-before T n (Flushes t l) next in
-      stepped (λ h. AreWaiting lines h new) T n (Flushes t l) next (waits-on.flush lines t l (history T n) f k.waiting new within line (omega (arith, numbered, many)) marked own others is.waiting)
+      stepped (λ h. AreWaiting lines h new) T n (Flushes t l) next ((waits-on last_line_store).flush lines t l (history T n) f k.waiting new within line (omega (arith, numbered, many)) marked own others is.waiting)
 
   pub flushed-tells : (again result : Bool) (safe last : ℕ) → again ≡ tells_at last k.flushed.first.items k.flushed.others.lines.items place t → t < 256 → safe ≡ safe_store_at T l n → last ≡ last_line_store_at T l n → result ≡ (again || (safe == last)) →
       (result ≡ true) ↔ IsRedundantFlush T t l (suc n)

@@ -4,7 +4,6 @@ pub mod First
 pub mod Parts
 pub mod Known
 pub mod Flushing
-pub mod Keeping
 pub mod Flags
 pub mod Ends
 pub mod Reading

@@ -15,7 +15,6 @@ pub mod judged;
 mod judging;
 mod known;
 mod latest;
-pub mod laws;
 mod line_order;
 mod line_words;
 mod lost;

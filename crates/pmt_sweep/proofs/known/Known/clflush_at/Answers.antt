@@ -1,11 +1,10 @@
-use Rattle.std.proofs.Common.{◌≡◌, suc, sym, ap, ◌∙◌, arith}
+use Rattle.std.proofs.Common.{◌≡◌, suc, ap, ◌∙◌, arith}
 use Rattle.std.proofs.lemmas.Grind.{elements}
-use Rattle.pmt_model.specs.Machine.{Clflushes}
+use Rattle.pmt_model.specs.Findings.{last_flush}
 use Rattle.pmt_model.specs.Traces.{history, lines_of, with_line}
-use Rattle.pmt_safety.specs.Safety.{safe_store_at}
+use Rattle.pmt_safety.specs.Safety.{last_line_store_at, safe_store_at}
 use Rattle.pmt_rows.specs.declared.rows.Row.{Row}
 use Rattle.pmt_rows.specs.Known.{row_after}
-use Rattle.pmt_sweep.proofs.KnownLemmas.{length-before}
 use Rattle.pmt_sweep.proofs.ClflushLemmas.{clears-chain, cleared-rows, cleared-links, cleared-words, cleared-flushed, cleared-waiting, clears-kept, clears-redundant}
 use Rattle.pmt_sweep.proofs.known.Known.clflush_at.Goals as goal
 
@@ -19,7 +18,7 @@ raise-requires c =
     let k = c.args.self.now in
     let place = c.args.place in
     let lines = with_line l (lines_of (history T n)) in
-    let row : c.row-row.result ≡ row_after (λ m. safe_store_at T m n) (history T n) l = c.row-row.ensures lines (history T n) (λ m. safe_store_at T m n) l it.at it.known.rows in
+    let row : c.row-row.result ≡ row_after (λ m. safe_store_at T m n) (history T n) l = c.row-row.ensures lines (λ m. last_line_store_at T m n) (λ m. safe_store_at T m n) (λ m. last_flush m (history T n)) l it.at it.known.rows in
     let safe = ap (λ (y : Row). y.safe) row in
     let last = ap (λ (y : Row). y.last_store) row in
     clears-chain T n l place lines k it.known it.is it.at c.row-row.result.safe c.row-row.result.last_store safe last
@@ -29,16 +28,15 @@ returns-clause-known c = λ T n l it.
     let k = c.args.self.now in
     let place = c.args.place in
     let lines = with_line l (lines_of (history T n)) in
-    let row : c.row-row.result ≡ row_after (λ m. safe_store_at T m n) (history T n) l = c.row-row.ensures lines (history T n) (λ m. safe_store_at T m n) l it.at it.known.rows in
+    let row : c.row-row.result ≡ row_after (λ m. safe_store_at T m n) (history T n) l = c.row-row.ensures lines (λ m. last_line_store_at T m n) (λ m. safe_store_at T m n) (λ m. last_flush m (history T n)) l it.at it.known.rows in
     let safe = ap (λ (y : Row). y.safe) row in
     let last = ap (λ (y : Row). y.last_store) row in
     let numbered : c.len-number.result ≡ suc n = c.len-number.ensures ∙ it.known.entries.many in
-    let counted = length-before T n (Clflushes l) it.is in
     record {
       trace = it.known.trace;
       format = it.known.format;
       many = it.known.many;
-      rows = cleared-rows T n l place lines k it.known it.is it.at c.clflush.new.self (c.clflush.ensures lines (history T n) (λ m. safe_store_at T m n) l (numbered ∙ ap suc (sym counted)) it.at it.known.rows);
+      rows = cleared-rows T n l place lines k it.known it.is it.at c.len-number.result c.clflush.new.self numbered (c.clflush.ensures lines (λ m. last_line_store_at T m n) (λ m. safe_store_at T m n) (λ m. last_flush m (history T n)) l it.at it.known.rows);
       words = cleared-words T n l place lines k it.known it.is it.at;
       entries = cleared-links T n l place lines k it.known it.is it.at c.row-row.result.safe c.row-row.result.last_store c.len-number.result c.raise.new.self c.push.new.self safe last numbered c.raise.ensures c.in_ok-push.ensures.added;
       flushed = cleared-flushed T n l place lines k it.known it.is it.at;
@@ -50,7 +48,7 @@ returns-clause-kept c = λ T n l it.
     let k = c.args.self.now in
     let place = c.args.place in
     let lines = with_line l (lines_of (history T n)) in
-    let row : c.row-row.result ≡ row_after (λ m. safe_store_at T m n) (history T n) l = c.row-row.ensures lines (history T n) (λ m. safe_store_at T m n) l it.at it.known.rows in
+    let row : c.row-row.result ≡ row_after (λ m. safe_store_at T m n) (history T n) l = c.row-row.ensures lines (λ m. last_line_store_at T m n) (λ m. safe_store_at T m n) (λ m. last_flush m (history T n)) l it.at it.known.rows in
     let safe = ap (λ (y : Row). y.safe) row in
     let last = ap (λ (y : Row). y.last_store) row in
     clears-kept T n l place lines k it.known it.is it.at c.row-row.result.safe c.row-row.result.last_store safe last
@@ -60,7 +58,7 @@ returns-clause-redundant c = λ T n l it.
     let k = c.args.self.now in
     let place = c.args.place in
     let lines = with_line l (lines_of (history T n)) in
-    let row : c.row-row.result ≡ row_after (λ m. safe_store_at T m n) (history T n) l = c.row-row.ensures lines (history T n) (λ m. safe_store_at T m n) l it.at it.known.rows in
+    let row : c.row-row.result ≡ row_after (λ m. safe_store_at T m n) (history T n) l = c.row-row.ensures lines (λ m. last_line_store_at T m n) (λ m. safe_store_at T m n) (λ m. last_flush m (history T n)) l it.at it.known.rows in
     let safe = ap (λ (y : Row). y.safe) row in
     let last = ap (λ (y : Row). y.last_store) row in
     clears-redundant T n l place lines k it.known it.is it.at c.row-row.result.safe c.row-row.result.last_store safe last

@@ -1,12 +1,12 @@
 use Rattle.std.proofs.Common.{◌≡◌, suc, ◌==◌, refl, sym, ap, ◌∙◌, arith}
 use Rattle.std.proofs.lemmas.Grind.{elements}
 use Rattle.std.specs.Prelude.{◌||◌, nat_eq}
-use Rattle.pmt_model.specs.Machine.{Flushes}
+use Rattle.pmt_model.specs.Findings.{last_flush}
 use Rattle.pmt_model.specs.Traces.{history, lines_of, with_line}
-use Rattle.pmt_safety.specs.Safety.{safe_store_at}
+use Rattle.pmt_safety.specs.Safety.{last_line_store_at, safe_store_at}
 use Rattle.pmt_rows.specs.declared.rows.Row.{Row}
 use Rattle.pmt_rows.specs.Known.{row_after}
-use Rattle.pmt_sweep.proofs.KnownLemmas.{length-before, flushed-rows, flushed-words, flushed-links, flushed-flushed, flushed-waiting, flushed-tells, or-left}
+use Rattle.pmt_sweep.proofs.KnownLemmas.{flushed-rows, flushed-words, flushed-links, flushed-flushed, flushed-waiting, flushed-tells, or-left}
 use Rattle.pmt_sweep.proofs.known.Known.flush_at.Goals as goal
 
 pub returns-then-again-clause-known : goal.returns-then-again-clause-known
@@ -15,15 +15,14 @@ returns-then-again-clause-known c = λ T n l it.
     let t = c.args.thread in
     let place = c.args.place in
     let lines = with_line l (lines_of (history T n)) in
-    let row : c.row-row.result ≡ row_after (λ m. safe_store_at T m n) (history T n) l = c.row-row.ensures lines (history T n) (λ m. safe_store_at T m n) l it.at it.known.rows in
+    let row : c.row-row.result ≡ row_after (λ m. safe_store_at T m n) (history T n) l = c.row-row.ensures lines (λ m. last_line_store_at T m n) (λ m. safe_store_at T m n) (λ m. last_flush m (history T n)) l it.at it.known.rows in
     let marked = ap (λ (y : Row). y.last_store) row in
     let numbered : c.len-number.result ≡ suc n = c.len-number.ensures ∙ it.known.entries.many in
-    let counted = length-before T n (Flushes t l) it.is in
     record {
       trace = it.known.trace;
       format = it.known.format;
       many = it.known.many;
-      rows = flushed-rows T n l t place lines k it.known it.is it.at c.flush-2.new.self (c.flush-2.ensures lines (history T n) (λ m. safe_store_at T m n) l t (numbered ∙ ap suc (sym counted)) it.at it.known.rows);
+      rows = flushed-rows T n l t place lines k it.known it.is it.at c.len-number.result c.flush-2.new.self numbered (c.flush-2.ensures lines (λ m. last_line_store_at T m n) (λ m. safe_store_at T m n) (λ m. last_flush m (history T n)) l it.at it.known.rows);
       words = flushed-words T n l t place lines k it.known it.is it.at;
       entries = flushed-links T n l t place lines k it.known it.is it.at c.len-number.result c.push.new.self numbered c.in_ok-push.ensures.added;
       flushed = flushed-flushed T n l t place lines k it.known it.is it.at c.row-row.result.last_store c.flush.new.self.first.items c.flush.new.self.others.lines.items marked c.in_ok-again.ensures.flushed;
@@ -36,7 +35,7 @@ returns-then-again-clause-tells c = λ T n l it.
     let t = c.args.thread in
     let place = c.args.place in
     let lines = with_line l (lines_of (history T n)) in
-    let row : c.row-row.result ≡ row_after (λ m. safe_store_at T m n) (history T n) l = c.row-row.ensures lines (history T n) (λ m. safe_store_at T m n) l it.at it.known.rows in
+    let row : c.row-row.result ≡ row_after (λ m. safe_store_at T m n) (history T n) l = c.row-row.ensures lines (λ m. last_line_store_at T m n) (λ m. safe_store_at T m n) (λ m. last_flush m (history T n)) l it.at it.known.rows in
     let marked = ap (λ (y : Row). y.last_store) row in
     flushed-tells T n l t place lines k it.known it.is it.at c.in_ok-again.again c.in_ok-again.again c.row-row.result.safe c.row-row.result.last_store c.in_ok-again.ensures.tells (omega (arith, c.ranges.thread.fits)) (ap (λ (y : Row). y.safe) row) marked
     (c.if-again.true ∙ sym (or-left c.in_ok-again.again (c.row-row.result.safe == c.row-row.result.last_store) c.if-again.true))
@@ -47,15 +46,14 @@ returns-else-again-clause-known c = λ T n l it.
     let t = c.args.thread in
     let place = c.args.place in
     let lines = with_line l (lines_of (history T n)) in
-    let row : c.row-row.result ≡ row_after (λ m. safe_store_at T m n) (history T n) l = c.row-row.ensures lines (history T n) (λ m. safe_store_at T m n) l it.at it.known.rows in
+    let row : c.row-row.result ≡ row_after (λ m. safe_store_at T m n) (history T n) l = c.row-row.ensures lines (λ m. last_line_store_at T m n) (λ m. safe_store_at T m n) (λ m. last_flush m (history T n)) l it.at it.known.rows in
     let marked = ap (λ (y : Row). y.last_store) row in
     let numbered : c.len-number.result ≡ suc n = c.len-number.ensures ∙ it.known.entries.many in
-    let counted = length-before T n (Flushes t l) it.is in
     record {
       trace = it.known.trace;
       format = it.known.format;
       many = it.known.many;
-      rows = flushed-rows T n l t place lines k it.known it.is it.at c.flush-2.new.self (c.flush-2.ensures lines (history T n) (λ m. safe_store_at T m n) l t (numbered ∙ ap suc (sym counted)) it.at it.known.rows);
+      rows = flushed-rows T n l t place lines k it.known it.is it.at c.len-number.result c.flush-2.new.self numbered (c.flush-2.ensures lines (λ m. last_line_store_at T m n) (λ m. safe_store_at T m n) (λ m. last_flush m (history T n)) l it.at it.known.rows);
       words = flushed-words T n l t place lines k it.known it.is it.at;
       entries = flushed-links T n l t place lines k it.known it.is it.at c.len-number.result c.push.new.self numbered c.in_ok-push.ensures.added;
       flushed = flushed-flushed T n l t place lines k it.known it.is it.at c.row-row.result.last_store c.flush.new.self.first.items c.flush.new.self.others.lines.items marked c.in_ok-again.ensures.flushed;
@@ -68,7 +66,7 @@ returns-else-again-clause-tells c = λ T n l it.
     let t = c.args.thread in
     let place = c.args.place in
     let lines = with_line l (lines_of (history T n)) in
-    let row : c.row-row.result ≡ row_after (λ m. safe_store_at T m n) (history T n) l = c.row-row.ensures lines (history T n) (λ m. safe_store_at T m n) l it.at it.known.rows in
+    let row : c.row-row.result ≡ row_after (λ m. safe_store_at T m n) (history T n) l = c.row-row.ensures lines (λ m. last_line_store_at T m n) (λ m. safe_store_at T m n) (λ m. last_flush m (history T n)) l it.at it.known.rows in
     let marked = ap (λ (y : Row). y.last_store) row in
     flushed-tells T n l t place lines k it.known it.is it.at c.in_ok-again.again (nat_eq c.row-row.result.safe c.row-row.result.last_store) c.row-row.result.safe c.row-row.result.last_store c.in_ok-again.ensures.tells (omega (arith, c.ranges.thread.fits)) (ap (λ (y : Row). y.safe) row) marked
     (ap (λ b. b || (c.row-row.result.safe == c.row-row.result.last_store)) (sym c.if-again.false))
