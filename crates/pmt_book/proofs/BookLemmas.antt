@@ -1,25 +1,27 @@
 -- What a book keeps goes on from event to event.
-use Rattle.std.proofs.Common.{◌≡◌, ℕ, false, List, ◌∷◌, None, sym, ap, subst, ◌∙◌, arith}
+use Rattle.std.proofs.Common.{◌≡◌, ℕ, Bool, true, false, List, ◌∷◌, None, refl, sym, ap, subst, ◌∙◌}
+use Rattle.std.specs.Prelude.{nat_eq}
+use Rattle.std.specs.List.{list_any}
 use Rattle.pmt_model.specs.declared.event.Event.{Event}
 use Rattle.pmt_model.specs.Machine.{Act, count}
 use Rattle.pmt_model.specs.Fronts.{front}
 use Rattle.pmt_model.specs.Traces.{Recording, act, has_line}
 use Rattle.pmt_model.specs.Pushing.{with_event}
-use Rattle.pmt_laws.proofs.Histories.{front-le-count}
-use Rattle.pmt_live.specs.declared.live.LiveLines.{LiveLines}
+use Rattle.pmt_book.specs.declared.live.LiveLines.{LiveLines}
+use Rattle.pmt_rows.specs.declared.rows.Row.{Row}
 use Rattle.pmt_tables.specs.Places.{IsFound}
-use Rattle.pmt_live.specs.Live.{IsLiveWith}
+use Rattle.pmt_book.specs.Live.{IsLiveWith}
 use Rattle.pmt_tables.proofs.ListLemmas.{list_any-has_line, not-among}
 use Rattle.pmt_book.specs.Ends.{whole_history}
 use Rattle.pmt_book.proofs.HistoryLemmas.{whole_history-with_event}
 
 -- What a book of this trace keeps of its lines.
 abbrev pub Keep : Recording → LiveLines → Type 0
-Keep T live = IsLiveWith live.lines (whole_history T) live
+Keep T live = IsLiveWith live.rows.places (whole_history T) live
 
 -- the lines that are known are those that have a place
-pub with-placed : (lines : List ℕ) (h : List Act) (live : LiveLines) → IsLiveWith lines h live → IsLiveWith live.lines h live
-with-placed lines h live is = subst (λ (ls : List ℕ). IsLiveWith ls h live) (sym is.placed) is
+pub with-placed : (lines : List ℕ) (h : List Act) (live : LiveLines) → IsLiveWith lines h live → IsLiveWith live.rows.places h live
+with-placed lines h live is = subst (λ (ls : List ℕ). IsLiveWith ls h live) (sym is.rows.placed) is
 
 -- one more event
 pub keep-event :
@@ -31,8 +33,8 @@ keep-event T e a new lines live is is_act known =
     (subst P (sym (ap whole_history is ∙ whole_history-with_event T e ∙ ap (λ (b : Act). b ∷ whole_history T) is_act)) known)
 
 -- a line without a place has no stores, and its front is 0
-pub no-stores : (T : Recording) (l : ℕ) (live : LiveLines) → Keep T live → IsFound l live.lines None → (count l (whole_history T) ≡ 0) × (front l (whole_history T) ≡ 0)
+pub no-stores : (T : Recording) (l : ℕ) (live : LiveLines) → Keep T live → IsFound l live.rows.places None → (count l (whole_history T) ≡ 0) × (front l (whole_history T) ≡ 0)
 no-stores T l live keep none =
-    let absent : has_line l live.lines ≡ false = sym (list_any-has_line l live.lines) ∙ not-among live.lines l none in
-    let counts : count l (whole_history T) ≡ 0 = keep.others l absent in
-    (counts, omega (arith, counts, front-le-count l (whole_history T)))
+    let absent : has_line l live.rows.places ≡ false = sym (list_any-has_line l live.rows.places) ∙ not-among live.rows.places l none in
+    let row = keep.rows.others l absent in
+    (ap (λ (y : Row). y.last_store) row, ap (λ (y : Row). y.safe) row)

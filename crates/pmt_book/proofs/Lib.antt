@@ -3,3 +3,4 @@ pub mod BookLemmas
 pub mod StoreBytes
 pub mod TouchingLemmas
 pub mod PersistLemmas
+pub mod LiveLemmas

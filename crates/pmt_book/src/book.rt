@@ -10,8 +10,8 @@ ghost use Rattle.pmt_book.specs.Ends.{last_front, last_count, PassesNow};
 
 use crate::copying::copied_trace;
 use crate::fault::BookError;
+use crate::live::LiveLines;
 use crate::touching::none_touches;
-use pmt_live::LiveLines;
 use pmt_model::{Addr, Event, Format, Op, OutOfMemory, Range, Trace, WordStore, line_of};
 use std::alloc::{AllocError, Global};
 use std::marker::Model;
@@ -31,13 +31,13 @@ pub struct Book {
 impl Model for Book {
     ghost use Rattle.pmt_model.specs.Traces.{Recording};
     ghost use Rattle.pmt_book.specs.Ends.{whole_history};
-    ghost use Rattle.pmt_live.specs.Live.{IsLiveWith};
+    ghost use Rattle.pmt_book.specs.Live.{IsLiveWith};
 
     ghost Value = { Recording };
 
     ghost view = { λ b. b.trace };
 
-    ghost invariant = { λ b. IsLiveWith b.lines.lines (whole_history b.trace) b.lines };
+    ghost invariant = { λ b. IsLiveWith b.lines.rows.places (whole_history b.trace) b.lines };
 }
 
 // Adds the event at the end of the trace.

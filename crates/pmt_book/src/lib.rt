@@ -7,7 +7,9 @@ pub mod book;
 mod copying;
 pub mod fault;
 pub mod laws;
+pub mod live;
 mod touching;
 
 pub use crate::book::Book;
 pub use crate::fault::BookError;
+pub use crate::live::LiveLines;

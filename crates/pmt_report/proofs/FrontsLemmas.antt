@@ -15,7 +15,7 @@ use Rattle.pmt_text.proofs.SourceLemmas.{whole-parts}
 use Rattle.pmt_text.specs.declared.source.SourceState.{SourceState}
 use Rattle.pmt_text.specs.declared.source.SourceState.TheVariants.{Open, Ended, Failed}
 use Rattle.pmt_taking.proofs.GrownLemmas.{length-grown, history-new}
-use Rattle.pmt_live.specs.Live.{IsLive}
+use Rattle.pmt_book.specs.Live.{IsLive}
 use Rattle.pmt_report.specs.declared.first_lines.TraceLines.{TraceLines}
 use Rattle.pmt_report.specs.Reports.{fronts_head, front_entry, fronts_text}
 use Rattle.pmt_report.specs.Taking.{EndsAfter}

@@ -4,7 +4,7 @@ use Rattle.pmt_model.specs.Traces.{Recording, history}
 use Rattle.pmt_text.specs.declared.source.SourceState.{SourceState}
 use Rattle.pmt_text.specs.Coming.{Coming}
 use Rattle.pmt_taking.specs.Sourcing.{TakesFirst}
-use Rattle.pmt_live.specs.Live.{IsLive}
+use Rattle.pmt_book.specs.Live.{IsLive}
 use Rattle.pmt_report.specs.declared.first_lines.TraceLines.{TraceLines}
 use Rattle.pmt_report.specs.Reports.{lines_at}
 

@@ -5,10 +5,10 @@ ghost use Rattle.pmt_model.specs.Pushing.{empty, with_event};
 ghost use Rattle.pmt_model.specs.Traces.{Recording, IsEventIn, act, event_limit};
 ghost use Rattle.pmt_text.specs.Sources.{CountsReads};
 ghost use Rattle.pmt_taking.specs.Sourcing.{IsFaultOf, TellsRefusal, told_by};
-ghost use Rattle.pmt_live.specs.Live.{IsLive};
+ghost use Rattle.pmt_book.specs.Live.{IsLive};
 ghost use Rattle.pmt_report.specs.FrontsOf.{AreLinesOf, TakesLines};
 
-use pmt_live::LiveLines;
+use pmt_book::LiveLines;
 use pmt_model::{Event, Format, Op, OutOfMemory, line_of};
 use pmt_taking::TakeError;
 use pmt_text::EventSource;

@@ -42,7 +42,7 @@ fn push_line(
     place: usize,
 ) -> Result<(), OutOfMemory>
     requires lines { (T : Recording) × AreLinesOf T lines.now }
-    requires place { IsPlaceOf line place lines.now.live.lines }
+    requires place { IsPlaceOf line place lines.now.live.rows.places }
     ensures { (T : Recording) → AreLinesOf T lines.now → OnOk result (text.new.items ≡ text.old.items ++ line_entry T (length T.events) line) }
 {
     let addr = line * lines.format.line_size();

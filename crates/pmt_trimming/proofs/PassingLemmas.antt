@@ -6,22 +6,20 @@ use Rattle.std.proofs.lemmas.List.{length-append}
 use Rattle.std.proofs.lemmas.Option.{same_Some}
 use Rattle.pmt_model.specs.declared.event.Event.{Event}
 use Rattle.pmt_model.specs.Machine.{Act, Flushes, Clflushes, Fences, Asserts}
-use Rattle.pmt_model.specs.Traces.{Recording, act, IsAct, history, count_at, event_limit, lines_of, with_line}
-use Rattle.pmt_model.specs.Fronts.{front_at}
+use Rattle.pmt_model.specs.Traces.{Recording, act, IsAct, history, lines_of}
 use Rattle.pmt_model.specs.Pushing.{with_event}
 use Rattle.pmt_model.specs.Selections.{always_stays}
 use Rattle.pmt_model.specs.Keeping.{IsKept, Stays}
 use Rattle.pmt_laws.specs.Passing.{IsOpenFlush, IsDecided}
-use Rattle.pmt_laws.proofs.Histories.{act-within, act-unique, history-act, length-history}
-use Rattle.pmt_laws.proofs.PassLemmas.{clflush_is_kept}
+use Rattle.pmt_laws.proofs.Histories.{act-within, act-unique, history-act}
 use Rattle.pmt_laws.proofs.DecidedLemmas.{decided_stays, act-more, act-less, history-more}
-use Rattle.pmt_live.specs.declared.live.LiveLines.{LiveLines}
-use Rattle.pmt_live.specs.Live.{IsLive, IsLiveWith, HasRoom}
-use Rattle.pmt_live.proofs.LiveLemmas.{live-assert}
+use Rattle.pmt_safety.specs.Safety.{last_line_store, safe_store}
+use Rattle.pmt_safety.proofs.KeptLemmas.{kept_clflush_by_stores}
+use Rattle.pmt_rows.proofs.OpenLemmas.{waits-on}
 use Rattle.pmt_trimming.specs.declared.pass.Mark.{Mark}
 use Rattle.pmt_trimming.specs.declared.pass.Mark.TheVariants as marks
 use Rattle.pmt_trimming.specs.declared.pass.Pass.{Pass}
-use Rattle.pmt_trimming.specs.Passing.{TellsMark, mark_from, AreMarks, HasJudged, IsPassOf}
+use Rattle.pmt_trimming.specs.Passing.{TellsMark, mark_from, AreMarks, AreLinesOf, HasJudged, IsPassOf}
 
 -- ---- The last event
 
@@ -108,10 +106,10 @@ tells-flush T e t l is = record {
 module _ (T : Recording) (e : Event) (a : Act) (is : act T.format e ≡ a) (p : Pass) (before : IsPassOf T p) where
   -- what is the same whatever the event is, where these are the marks of the events so far
   pub judged-marks : (q : Pass) (m : Mark) → q.format ≡ p.format → q.settled ≡ p.settled → length q.marks.items ≡ length p.marks.items →
-      IsLive (a ∷ history T (length T.events)) q.live → AreMarks (with_event T e) p.settled q.marks.items → TellsMark (with_event T e) (suc (length T.events)) m → HasJudged (with_event T e) q m
-  judged-marks q m format settled size live told last = record {
+      AreLinesOf (a ∷ history T (length T.events)) q → AreMarks (with_event T e) p.settled q.marks.items → TellsMark (with_event T e) (suc (length T.events)) m → HasJudged (with_event T e) q m
+  judged-marks q m format settled size lines told last = record {
     format = format ∙ before.format;
-    live = rw (history-last T e a is) live;
+    lines = rw (history-last T e a is) lines;
     all = omega (arith, settled, size, before.all, length-last T e);
     marks = rw settled told;
     before = rw settled (λ k h. (decided_stays T (e ∷ []) k (before.before k h)).0);
@@ -119,51 +117,43 @@ module _ (T : Recording) (e : Event) (a : Act) (is : act T.format e ≡ a) (p : 
   }
 
   -- and where the event is no fence
-  pub judged : (q : Pass) (m : Mark) → q.format ≡ p.format → q.settled ≡ p.settled → q.marks.items ≡ p.marks.items → IsLive (a ∷ history T (length T.events)) q.live →
+  pub judged : (q : Pass) (m : Mark) → q.format ≡ p.format → q.settled ≡ p.settled → q.marks.items ≡ p.marks.items → AreLinesOf (a ∷ history T (length T.events)) q →
       ((o : (k : ℕ) × IsOpenFlush T k) → a ≡ Fences o.1.thread → ⊥) → TellsMark (with_event T e) (suc (length T.events)) m → HasJudged (with_event T e) q m
-  judged q m format settled same live none last =
-      judged-marks q m format settled (ap length same) live
+  judged q m format settled same lines none last =
+      judged-marks q m format settled (ap length same) lines
       (rw same (λ i x at. tells-more T e (suc (p.settled + i)) x (λ o open_ fence. none (suc (p.settled + i), o) (sym is ∙ fence)) (before.marks i x at))) last
 
 -- an assertion is kept, and changes nothing
 pub judged-assert : (T : Recording) (e : Event) (p q : Pass) → act T.format e ≡ Asserts → q ≡ p → IsPassOf T p → HasJudged (with_event T e) q marks.Kept
 judged-assert T e p q is same before =
+    let h = history T (length T.events) in
     judged T e Asserts is p before q marks.Kept (ap (λ (x : Pass). x.format) same) (ap (λ (x : Pass). x.settled) same) (ap (λ (x : Pass). x.marks.items) same)
-    (rw same (live-assert (lines_of (history T (length T.events))) (history T (length T.events)) p.live before.live)) (λ o fence. cc) (tells-stays T e Asserts is refl)
+    (rw same (record { rows = before.lines.rows; waiting = (waits-on last_line_store).others (lines_of h) h p.waiting Asserts (λ t l e. cc) (λ t e. cc) before.lines.waiting })) (λ o fence. cc) (tells-stays T e Asserts is refl)
 
 -- the mark comes after the others
-pub passed : (T : Recording) (p q : Pass) (m : Mark) → HasJudged T p m → q.format ≡ p.format → q.live ≡ p.live → q.settled ≡ p.settled → q.marks.items ≡ p.marks.items ++ m ∷ [] → IsPassOf T q
-passed T p q m before format live settled pushed = record {
+pub passed : (T : Recording) (p q : Pass) (m : Mark) → HasJudged T p m → q.format ≡ p.format → q.rows ≡ p.rows → q.waiting ≡ p.waiting → q.settled ≡ p.settled → q.marks.items ≡ p.marks.items ++ m ∷ [] → IsPassOf T q
+passed T p q m before format rows waiting settled pushed = record {
   format = format ∙ before.format;
-  live = rw live before.live;
+  lines = rw (rows, waiting) before.lines;
   all = omega (arith, settled, ap length pushed, length-append p.marks.items (m ∷ []), before.all);
   marks = rw (settled, pushed) (marks-push T p.settled p.marks.items m before.all before.marks before.last);
   before = rw settled before.before;
 }
 
--- a store finds room
-pub room-left : (T : Recording) (p : Pass) (l : ℕ) (live : LiveLines) → IsPassOf T p → p.settled + length p.marks.items < event_limit →
-    IsLiveWith (with_line l (lines_of (history T (length T.events)))) (history T (length T.events)) live → HasRoom live
-room-left T p l live before room known =
-    (with_line l (lines_of (history T (length T.events))), history T (length T.events), omega (arith, room, before.all, length-history T (length T.events) (omega arith)), known)
-
--- a clflush is kept exactly if the front is below the count
-pub tells-clflush : (T : Recording) (e : Event) (l : ℕ) (rises : Bool) → act T.format e ≡ Clflushes l → rises ≡ nat_lt (front_at T l (length T.events)) (count_at T l (length T.events)) →
-    TellsMark (with_event T e) (suc (length T.events)) (mark_from rises)
-tells-clflush T e l rises is tells =
-    tells-from (with_event T e) (suc (length T.events)) rises (decided-last T e (Clflushes l) is (λ t k same. cc)) (there, back)
+-- a clflush is kept exactly where the last store to the line is not safe
+pub tells-clflush : (T : Recording) (e : Event) (l safe last : ℕ) → act T.format e ≡ Clflushes l → safe ≡ safe_store l (history T (length T.events)) → last ≡ last_line_store l (history T (length T.events)) →
+    TellsMark (with_event T e) (suc (length T.events)) (mark_from (nat_lt safe last))
+tells-clflush T e l safe last is safe_is last_is =
+    tells-from (with_event T e) (suc (length T.events)) (nat_lt safe last) (decided-last T e (Clflushes l) is (λ t k same. cc)) (there, back)
   where
-    law : IsKept (with_event T e) (suc (length T.events)) ↔ (front_at (with_event T e) l (length T.events) < count_at (with_event T e) l (length T.events))
-    law = clflush_is_kept (with_event T e) l (length T.events) (last-act T e (Clflushes l) is)
+    law : IsKept (with_event T e) (suc (length T.events)) ↔ (safe < last)
+    law = rw (safe_is, last_is, sym (history-same T e)) (kept_clflush_by_stores (with_event T e) l (length T.events) (last-act T e (Clflushes l) is))
 
-    now : rises ≡ nat_lt (front_at (with_event T e) l (length T.events)) (count_at (with_event T e) l (length T.events))
-    now = rw (history-same T e) tells
+    there : nat_lt safe last ≡ true → IsKept (with_event T e) (suc (length T.events))
+    there yes_ = law.1 (ltb-true safe last yes_)
 
-    there : rises ≡ true → IsKept (with_event T e) (suc (length T.events))
-    there yes_ = law.1 (ltb-true (front_at (with_event T e) l (length T.events)) (count_at (with_event T e) l (length T.events)) (sym now ∙ yes_))
-
-    back : IsKept (with_event T e) (suc (length T.events)) → rises ≡ true
-    back kept = now ∙ lt-ltb (front_at (with_event T e) l (length T.events)) (count_at (with_event T e) l (length T.events)) (law.0 kept)
+    back : IsKept (with_event T e) (suc (length T.events)) → nat_lt safe last ≡ true
+    back kept = lt-ltb safe last (law.0 kept)
 
 -- a fence is decided when it comes
 pub tells-fence : (T : Recording) (e : Event) (t : ℕ) (rises : Bool) → act T.format e ≡ Fences t → (rises ≡ true) ↔ IsKept (with_event T e) (suc (length T.events)) →

@@ -54,10 +54,10 @@ get-drop [] (suc i) = refl
 get-drop (x ∷ list) i = refl
 
 pub passing-less : (T : Recording) (p q : Pass) (m : Mark) (kept : Bool) → 0 < length p.marks.items → m ≡ get_or p.marks.items 0 m → decision_by m ≡ Some kept → IsPassOf T p →
-    q.format ≡ p.format → q.live ≡ p.live → q.marks.items ≡ drop 1 p.marks.items → q.settled ≡ p.settled + 1 → IsPassOf T q
-passing-less T p q m kept some read is before format lines dropped settled = record {
+    q.format ≡ p.format → q.rows ≡ p.rows → q.waiting ≡ p.waiting → q.marks.items ≡ drop 1 p.marks.items → q.settled ≡ p.settled + 1 → IsPassOf T q
+passing-less T p q m kept some read is before format rows waiting dropped settled = record {
   format = format ∙ before.format;
-  live = rw lines before.live;
+  lines = rw (rows, waiting) before.lines;
   all = omega (arith, ap length dropped, length-drop 1 p.marks.items, settled, before.all);
   marks = λ i x at.
       let e : p.settled + suc i ≡ q.settled + i = omega (arith, settled) in
@@ -98,10 +98,10 @@ none-at i m at = cc
 
 -- it is given out
 pub alone-passed : (T : Recording) (p q : Pass) (m : Mark) (kept : Bool) → HasJudged T p m → length p.marks.items ≡ 0 → decision_by m ≡ Some kept →
-    q.format ≡ p.format → q.live ≡ p.live → q.marks.items ≡ p.marks.items → q.settled ≡ p.settled + 1 → IsPassOf T q
-alone-passed T p q m kept judged none is format lines same settled = record {
+    q.format ≡ p.format → q.rows ≡ p.rows → q.waiting ≡ p.waiting → q.marks.items ≡ p.marks.items → q.settled ≡ p.settled + 1 → IsPassOf T q
+alone-passed T p q m kept judged none is format rows waiting same settled = record {
   format = format ∙ judged.format;
-  live = rw lines judged.live;
+  lines = rw (rows, waiting) judged.lines;
   all = omega (arith, ap length same, none, settled, judged.all);
   marks = rw (same, no-marks p.marks.items none) (λ i x at. absurd (none-at i x at));
   before = λ k h. early k h (cases_lt p.settled k);

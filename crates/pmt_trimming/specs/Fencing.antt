@@ -1,20 +1,40 @@
 -- What a pass does at a fence.
-use Rattle.std.specs.Prelude.{◌≡◌, ℕ, suc, ◌+◌, ◌<◌, ◌≤◌, ◌⊎◌, ◌↔◌, List, length, map, All, Some, slice_get}
-use Rattle.pmt_model.specs.Traces.{Recording}
+use Rattle.std.specs.Prelude.{◌≡◌, ℕ, suc, ◌+◌, ◌<◌, ◌≤◌, ◌⊎◌, ◌↔◌, Bool, true, List, length, map, All, Some, slice_get}
+use Rattle.pmt_model.specs.Machine.{Fences}
+use Rattle.pmt_model.specs.Traces.{Recording, IsAct, history}
 use Rattle.pmt_model.specs.Selections.{Has}
 use Rattle.pmt_model.specs.Keeping.{IsKept}
 use Rattle.pmt_laws.specs.Passing.{IsDecided}
-use Rattle.pmt_live.specs.declared.open.OpenFlush.{OpenFlush}
-use Rattle.pmt_live.specs.Fencing.{number_of}
+use Rattle.pmt_safety.specs.Safety.{safe_store_at}
+use Rattle.pmt_rows.specs.declared.rows.Rows.{Rows}
+use Rattle.pmt_rows.specs.declared.open.OpenFlush.{OpenFlush}
+use Rattle.pmt_rows.specs.Known.{IsKnownWith}
+use Rattle.pmt_rows.specs.Waiting.{waiting, waits, raise_all}
+use Rattle.pmt_rows.specs.Fencing.{waits_all}
 use Rattle.pmt_trimming.specs.declared.pass.Mark.{Mark}
-use Rattle.pmt_trimming.specs.Passing.{TellsMark}
+use Rattle.pmt_trimming.specs.Passing.{TellsMark, AreMarks}
 
--- Each event with one of these numbers has a mark.
-abbrev pub HaveMarks : ℕ → List Mark → List ℕ → Type 0
-HaveMarks settled list numbers = All (λ k. (settled < k) × (k ≤ settled + length list)) numbers
+abbrev pub number_of : OpenFlush → ℕ
+number_of f = f.number
 
--- A fence has decided these flushes, and it is told of each whether it is kept. The marks are those of all other events.
-pub record AreDecided (T : Recording) (settled : ℕ) (list : List Mark) (flushes : List OpenFlush) : Type 0 where
+-- Each mark is that of its event, or the event is one of these.
+abbrev pub AreMarksBut : Recording → ℕ → List Mark → List OpenFlush → Type 0
+AreMarksBut T settled list flushes = (i : ℕ) (m : Mark) → slice_get list i ≡ Some m → TellsMark T (suc (settled + i)) m ⊎ Has (map number_of flushes) (suc (settled + i))
+
+-- Event n + 1 is a fence, which decides these flushes: those of its thread since its last fence. Each has a mark, and the marks are those of
+-- all other events.
+pub record AreAtFence (T : Recording) (n : ℕ) (lines : List ℕ) (settled : ℕ) (rows : Rows) (list : List Mark) (flushes : List OpenFlush) : Type 0 where
+  pub thread : ℕ
+  pub fence : IsAct T (suc n) (Fences thread)
+  pub known : IsKnownWith lines (history T n) (λ l. safe_store_at T l n) rows
+  pub waiting : map (waits lines) flushes ≡ waiting thread (history T n)
+  pub within : All (λ f. f.place < length lines) flushes
+  pub marked : All (λ k. (settled < k) × (k ≤ settled + length list)) (map number_of flushes)
   pub decided : All (λ k. IsDecided T k) (map number_of flushes)
-  pub kept : All (λ f. (0 < f.stores) ↔ IsKept T f.number) flushes
-  pub others : (i : ℕ) (m : Mark) → slice_get list i ≡ Some m → TellsMark T (suc (settled + i)) m ⊎ Has (map number_of flushes) (suc (settled + i))
+  pub marks : AreMarksBut T settled list flushes
+
+-- The flushes have raised their lines, all marks are those of their events, and it is told whether the fence is kept.
+pub record ArePastFence (T : Recording) (n : ℕ) (lines : List ℕ) (settled : ℕ) (flushes : List OpenFlush) (rows : Rows) (list : List Mark) (rises : Bool) : Type 0 where
+  pub known : IsKnownWith lines (history T n) (raise_all (waits_all lines flushes) (λ l. safe_store_at T l n)) rows
+  pub marks : AreMarks T settled list
+  pub fence : (rises ≡ true) ↔ IsKept T (suc n)

@@ -1,9 +1,14 @@
 -- What a pass over the events of a trace keeps, and what it tells.
 use Rattle.std.specs.Prelude.{◌≡◌, ℕ, suc, ◌+◌, ◌<◌, ◌≤◌, ◌⊎◌, ◌↔◌, Bool, true, false, List, length, Option, Some, None, slice_get}
-use Rattle.pmt_model.specs.Traces.{Recording, history}
+use Rattle.pmt_model.specs.Machine.{Act}
+use Rattle.pmt_model.specs.Traces.{Recording, history, lines_of}
 use Rattle.pmt_model.specs.Keeping.{IsKept}
 use Rattle.pmt_laws.specs.Passing.{IsOpenFlush, IsDecided}
-use Rattle.pmt_live.specs.Live.{IsLive}
+use Rattle.pmt_rows.specs.declared.rows.Rows.{Rows}
+use Rattle.pmt_rows.specs.declared.open.OpenFlush.{OpenFlush}
+use Rattle.pmt_rows.specs.Known.{IsKnownWith}
+use Rattle.pmt_rows.specs.Waiting.{AreWaiting}
+use Rattle.pmt_safety.specs.Safety.{safe_store}
 use Rattle.pmt_trimming.specs.declared.pass.Mark.{Mark}
 use Rattle.pmt_trimming.specs.declared.pass.Mark.TheVariants as marks
 use Rattle.pmt_trimming.specs.declared.pass.Pass.{Pass}
@@ -35,10 +40,19 @@ flag_by marks.Dropped = false
 abbrev pub AreMarks : Recording → ℕ → List Mark → Type 0
 AreMarks T settled list = (i : ℕ) (m : Mark) → slice_get list i ≡ Some m → TellsMark T (suc (settled + i)) m
 
+-- After the history these lines have a place, and each has its row; and these flushes wait for a fence of their thread.
+pub record AreLines (lines : List ℕ) (h : List Act) (r : Rows) (lists : List (List OpenFlush)) : Type 0 where
+  pub rows : IsKnownWith lines h (λ l. safe_store l h) r
+  pub waiting : AreWaiting lines h lists
+
+-- The lines are those that were stored or flushed, in order of first appearance.
+abbrev pub AreLinesOf : List Act → Pass → Type 0
+AreLinesOf h p = AreLines (lines_of h) h p.rows p.waiting
+
 -- The pass has taken the events of this trace, and no others.
 pub record IsPassOf (T : Recording) (p : Pass) : Type 0 where
   pub format : p.format ≡ T.format
-  pub live : IsLive (history T (length T.events)) p.live
+  pub lines : AreLinesOf (history T (length T.events)) p
   pub all : p.settled + length p.marks.items ≡ length T.events
   pub marks : AreMarks T p.settled p.marks.items
   pub before : (k : ℕ) → k ≤ p.settled → IsDecided T k
@@ -46,7 +60,7 @@ pub record IsPassOf (T : Recording) (p : Pass) : Type 0 where
 -- The pass has taken the events of this trace but the last, of which the mark tells.
 pub record HasJudged (T : Recording) (p : Pass) (mark : Mark) : Type 0 where
   pub format : p.format ≡ T.format
-  pub live : IsLive (history T (length T.events)) p.live
+  pub lines : AreLinesOf (history T (length T.events)) p
   pub all : suc (p.settled + length p.marks.items) ≡ length T.events
   pub marks : AreMarks T p.settled p.marks.items
   pub before : (k : ℕ) → k ≤ p.settled → IsDecided T k

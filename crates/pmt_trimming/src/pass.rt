@@ -1,18 +1,17 @@
 //! The pass forward over the events of a trace, which decides what is kept.
 
-ghost use Rattle.std.specs.Prelude.{◌≡◌, ℕ, ◌+◌, ◌<◌, ◌≤◌, [], length, map, IfOk, OnOk};
+ghost use Rattle.std.specs.Prelude.{◌≡◌, ℕ, suc, ◌+◌, ◌<◌, ◌≤◌, List, [], length, map, IfOk, OnOk};
 ghost use Rattle.pmt_model.specs.Machine.{Stores, Flushes, Clflushes, Fences};
 ghost use Rattle.pmt_model.specs.Pushing.{empty, with_event};
 ghost use Rattle.pmt_model.specs.Traces.{Recording, act, event_limit};
 ghost use Rattle.pmt_model.specs.Values.{Written};
 ghost use Rattle.pmt_model.specs.declared.event.Event.{Event};
-ghost use Rattle.pmt_live.specs.Fencing.{number_of};
-ghost use Rattle.pmt_trimming.specs.Passing.{AreDecidedFrom, HasJudged, IsPassOf, IsPassing, taken, Settles, AreFlags, AreMarks, mark_from, decision_by, flag_by};
-ghost use Rattle.pmt_trimming.specs.Fencing.{HaveMarks, AreDecided};
+ghost use Rattle.pmt_trimming.specs.Passing.{AreDecidedFrom, HasJudged, IsPassOf, IsPassing, taken, Settles, AreFlags, mark_from, decision_by, flag_by};
+ghost use Rattle.pmt_trimming.specs.Fencing.{AreAtFence, ArePastFence};
 
 use crate::marks::Marks;
-use pmt_live::{LiveLines, OpenFlush};
 use pmt_model::{Event, Format, Op, OutOfMemory, line_of};
+use pmt_rows::{OpenFlush, OpenFlushes, Rows};
 use std::alloc::Global;
 
 /// What is known of an event.
@@ -33,7 +32,8 @@ pub(crate) enum Mark {
 #[derive(Drop)]
 pub(crate) struct Pass {
     format: Format,
-    live: LiveLines,
+    rows: Rows,
+    waiting: OpenFlushes,
     marks: Marks,
     settled: u64,
 }
@@ -48,7 +48,8 @@ impl Pass {
     {
         Ok(Pass {
             format,
-            live: LiveLines::new(alloc),
+            rows: Rows::new(alloc),
+            waiting: OpenFlushes::new(alloc),
             marks: Marks::new(alloc),
             settled: 0,
         })
@@ -118,6 +119,15 @@ impl Pass {
         }
     }
 
+    // The number of the next event.
+    #[inline(always)]
+    fn next_number(&self) -> u32
+        requires { taken self.now < event_limit }
+        ensures { result ≡ suc (taken self.now) }
+    {
+        (self.settled + self.marks.len() as u64 + 1) as u32
+    }
+
     // A store to the line.
     #[inline(always)]
     fn judge_store(&mut self, line: u64) -> Result<Mark, OutOfMemory>
@@ -127,8 +137,9 @@ impl Pass {
         ensures settled { self.new.settled ≡ self.old.settled }
         ensures size { length self.new.marks.items ≡ length self.old.marks.items }
     {
-        let place = self.live.place_of(line)?;
-        self.live.store(place);
+        let number = self.next_number();
+        let place = self.rows.place_of(line)?;
+        self.rows.store(place, number);
         Ok(Mark::Kept)
     }
 
@@ -141,22 +152,31 @@ impl Pass {
         ensures settled { self.new.settled ≡ self.old.settled }
         ensures size { length self.new.marks.items ≡ length self.old.marks.items }
     {
-        let place = self.live.place_of(line)?;
-        let number = (self.settled + self.marks.len() as u64 + 1) as u32;
-        self.live.flush(thread, place, number)?;
+        let number = self.next_number();
+        let place = self.rows.place_of(line)?;
+        let flush = OpenFlush {
+            number,
+            place: place as u32,
+            store: self.rows.row(place).last_store,
+        };
+        self.waiting.add(thread, flush)?;
+        self.rows.flush(place, number);
         Ok(Mark::Open)
     }
 
     // A clflush of the line.
     fn judge_clflush(&mut self, line: u64) -> Result<Mark, OutOfMemory>
         requires passing { IsPassing self.old }
+        requires room { taken self.old < event_limit }
         ensures follows { (T : Recording) (e : Event) → act T.format e ≡ Clflushes line → IsPassOf T self.old → IfOk result (λ mark. HasJudged (with_event T e) self.new mark) }
         ensures settled { self.new.settled ≡ self.old.settled }
         ensures size { length self.new.marks.items ≡ length self.old.marks.items }
     {
-        let place = self.live.place_of(line)?;
-        let rises = self.live.clflush(place);
-        Ok(mark_of(rises))
+        let number = self.next_number();
+        let place = self.rows.place_of(line)?;
+        let row = self.rows.row(place);
+        self.rows.clflush(place, number);
+        Ok(mark_of(row.safe < row.last_store))
     }
 
     // A fence by the thread.
@@ -166,8 +186,9 @@ impl Pass {
         ensures settled { self.new.settled ≡ self.old.settled }
         ensures size { length self.new.marks.items ≡ length self.old.marks.items }
     {
-        let rises = self.live.fence(thread);
-        mark_decided(&mut self.marks, self.settled, self.live.decided());
+        let flushes = self.waiting.of(thread);
+        let rises = decide(&mut self.rows, &mut self.marks, self.settled, flushes);
+        self.waiting.clear(thread);
         mark_of(rises)
     }
 
@@ -255,14 +276,21 @@ pub(crate) fn flag(mark: Mark) -> bool
     }
 }
 
-// Marks the flushes that a fence has decided.
-fn mark_decided(marks: &mut Marks, settled: u64, flushes: &[OpenFlush])
-    requires { HaveMarks settled marks.old.items (map number_of flushes.now) }
+// A fence, the next event, by the thread whose open flushes these are: whether the last safe store of a line rises. Each flush is marked by
+// whether it raises its line. No step is a branch, so that the machine fetches many rows at once.
+fn decide(rows: &mut Rows, marks: &mut Marks, settled: u64, flushes: &[OpenFlush]) -> bool
+    requires { (T : Recording) × (n : ℕ) × (lines : List ℕ) × AreAtFence T n lines settled rows.old marks.old.items flushes.now }
     ensures size { length marks.new.items ≡ length marks.old.items }
-    ensures marks { (T : Recording) → AreDecided T settled marks.old.items flushes.now → AreMarks T settled marks.new.items }
+    ensures decides { (T : Recording) (n : ℕ) (lines : List ℕ) → AreAtFence T n lines settled rows.old marks.old.items flushes.now → ArePastFence T n lines settled flushes.now rows.new marks.new.items result }
 {
-    for flush in flushes {
+    let mut rises = false;
+    for i in (0..flushes.len()).rev() {
+        let flush = flushes[i];
+        let safe = rows.raise(flush.place as usize, flush.store);
+        let raises = safe < flush.store;
         let index = (flush.number as u64 - settled - 1) as usize;
-        marks.put(index, mark_of(flush.is_kept()));
+        marks.put(index, mark_of(raises));
+        rises = raises | rises;
     }
+    rises
 }

@@ -2,8 +2,8 @@ use Rattle.std.proofs.Common.{◌≡◌, ◌∷◌, sym, subst, ap, ◌∙◌, a
 use Rattle.pmt_model.specs.Machine.{Act, Stores, Flushes, Clflushes}
 use Rattle.pmt_model.specs.Values.{line_of}
 use Rattle.pmt_model.specs.Traces.{act, act_of, lines_of, with_line}
-use Rattle.pmt_live.specs.Live.{IsLive}
-use Rattle.pmt_live.proofs.LiveLemmas.{has-place, place-in}
+use Rattle.pmt_book.specs.Live.{IsLive}
+use Rattle.pmt_book.proofs.LiveLemmas.{has-place, place-in}
 use Rattle.pmt_report.proofs.first_lines.tell.Goals as goal
 
 pub returns-in_ok-place-in-Store : goal.returns-in_ok-place-in-Store
@@ -22,7 +22,7 @@ returns-in_ok-place-in-Clflush c = λ h number before.
     let same : act c.args.format c.args.event.now ≡ Clflushes l = ap (act_of c.args.format c.args.event.now.thread) c.in-Clflush.is ∙ ap Clflushes (sym c.line_of-in-Clflush.ensures) in
     let known = c.in_ok-place-in-Clflush.ensures.live (lines_of h) h before in
     subst (λ (a : Act). IsLive (a ∷ h) c.clflush.new.self) (sym same)
-    (c.clflush.ensures.live (with_line l (lines_of h)) h l (place-in _ h l c.in_ok-place-in-Clflush.place _ c.in_ok-place-in-Clflush.ensures.here known) known)
+    (c.clflush.ensures (with_line l (lines_of h)) h l (place-in _ h l c.in_ok-place-in-Clflush.place _ c.in_ok-place-in-Clflush.ensures.here known) known)
 
 pub returns-in_ok-flush-in-Clwb : goal.returns-in_ok-flush-in-Clwb
 returns-in_ok-flush-in-Clwb c = λ h number before.

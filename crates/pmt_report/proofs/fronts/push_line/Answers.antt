@@ -3,7 +3,7 @@ use Rattle.std.proofs.lemmas.Grind.{elements}
 use Rattle.pmt_model.specs.Values.{Layout}
 use Rattle.pmt_model.specs.Traces.{history, count_at, lines_of}
 use Rattle.pmt_model.specs.Fronts.{front_at}
-use Rattle.pmt_live.proofs.LiveLemmas.{has-place, place-in}
+use Rattle.pmt_book.proofs.LiveLemmas.{has-place, place-in}
 use Rattle.pmt_report.specs.Reports.{front_entry, line_entry}
 use Rattle.pmt_report.proofs.fronts.push_line.Goals as goal
 

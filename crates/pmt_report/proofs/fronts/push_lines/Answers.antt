@@ -23,4 +23,4 @@ loop-place-preserved c = λ T known.
 
 pub returns : goal.returns
 returns c = λ T known.
-    entries-all (line_entry T (length T.events)) c.lines-all.result.now _ c.loop-place.place c.loop-place.text.items c.args.text.now.items c.loop-place-test.false (c.lines-all.ensures ∙ known.live.placed) (c.loop-place.invariant T known)
+    entries-all (line_entry T (length T.events)) c.lines-all.result.now _ c.loop-place.place c.loop-place.text.items c.args.text.now.items c.loop-place-test.false (c.lines-all.ensures ∙ known.live.rows.placed) (c.loop-place.invariant T known)

@@ -15,8 +15,8 @@ invariant_of-self-2 c =
     let line = c.line_of-line.result in
     let placed = c.place_of.new.self in
     let at : line ≡ line_of T.format c.args.addr = c.line_of-line.ensures ∙ ap (λ (f : Layout). line_of f c.args.addr) c.format.ensures.value in
-    keep-event T (event_by c.args.thread (Clflush c.args.addr)) (Clflushes line) c.push.new.trace placed.lines c.clflush.new.self c.in_ok-push.ensures.ok (ap Clflushes (sym at))
-    (c.clflush.ensures.live placed.lines h line c.in_ok-place.ensures.here (with-placed _ h placed (c.in_ok-place.ensures.live c.self.inside.lines.lines h c.self.invariant)))
+    keep-event T (event_by c.args.thread (Clflush c.args.addr)) (Clflushes line) c.push.new.trace placed.rows.places c.clflush.new.self c.in_ok-push.ensures.ok (ap Clflushes (sym at))
+    (c.clflush.ensures placed.rows.places h line c.in_ok-place.ensures.here (with-placed _ h placed (c.in_ok-place.ensures.live c.self.inside.lines.rows.places h c.self.invariant)))
 
 pub line_of-line-requires : goal.line_of-line-requires
 line_of-line-requires c = omega arith

@@ -3,7 +3,7 @@ use Rattle.std.proofs.lemmas.Grind.{elements}
 use Rattle.pmt_model.specs.Values.{Layout, line_of}
 use Rattle.pmt_model.specs.Machine.{Flushes}
 use Rattle.pmt_model.specs.Traces.{Recording, act}
-use Rattle.pmt_live.specs.Live.{IsLiveWith}
+use Rattle.pmt_book.specs.Live.{IsLiveWith}
 use Rattle.pmt_book.specs.Ends.{whole_history}
 use Rattle.pmt_book.proofs.HistoryLemmas.{length-whole}
 use Rattle.pmt_book.proofs.BookLemmas.{with-placed, keep-event}
@@ -20,9 +20,9 @@ invariant_of-self-in-Ok c =
     let is_act = ap (λ (R : Recording). act R.format event) c.self.view_is ∙ c.requires
     ∙ ap (λ (R : Recording). Flushes event.thread (line_of R.format c.args.addr)) (sym c.self.view_is) ∙ ap (Flushes event.thread) (sym at) in
     let numbered : c.len.result + 1 ≡ suc (length h) = omega (arith, length-whole T, c.len.ensures.value) in
-    keep-event T event (Flushes event.thread line) c.push.new.trace placed.lines c.flush.new.self c.in-Ok.ensures.ok is_act
-    (c.in_ok-flush.ensures.live placed.lines h line numbered c.in_ok-place.ensures.here
-    (with-placed _ h placed (c.in_ok-place.ensures.live c.self.inside.lines.lines h c.self.invariant)))
+    keep-event T event (Flushes event.thread line) c.push.new.trace placed.rows.places c.flush.new.self c.in-Ok.ensures.ok is_act
+    (c.in_ok-flush.ensures.live placed.rows.places h line numbered c.in_ok-place.ensures.here
+    (with-placed _ h placed (c.in_ok-place.ensures.live c.self.inside.lines.rows.places h c.self.invariant)))
 
 pub invariant_of-self-in-Err : goal.invariant_of-self-in-Err
 invariant_of-self-in-Err c =
@@ -31,10 +31,10 @@ invariant_of-self-in-Err c =
     let line = c.line_of-line.result in
     let placed = c.place_of.new.self in
     let numbered : c.len.result + 1 ≡ suc (length h) = omega (arith, length-whole T, c.len.ensures.value) in
-    let flushed = c.in_ok-flush.ensures.live placed.lines h line numbered c.in_ok-place.ensures.here
-    (with-placed _ h placed (c.in_ok-place.ensures.live c.self.inside.lines.lines h c.self.invariant)) in
-    with-placed placed.lines (whole_history c.push.new.trace) c.take_back.new.self
-    (subst (λ (R : Recording). IsLiveWith placed.lines (whole_history R) c.take_back.new.self) (sym c.in-Err.ensures.err) (c.take_back.ensures placed.lines h line flushed))
+    let flushed = c.in_ok-flush.ensures.live placed.rows.places h line numbered c.in_ok-place.ensures.here
+    (with-placed _ h placed (c.in_ok-place.ensures.live c.self.inside.lines.rows.places h c.self.invariant)) in
+    with-placed placed.rows.places (whole_history c.push.new.trace) c.take_back.new.self
+    (subst (λ (R : Recording). IsLiveWith placed.rows.places (whole_history R) c.take_back.new.self) (sym c.in-Err.ensures.err) (c.take_back.ensures placed.rows.places h line flushed))
 
 pub format-requires : goal.format-requires
 format-requires c = omega arith

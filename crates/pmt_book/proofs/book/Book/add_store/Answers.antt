@@ -17,9 +17,9 @@ invariant_of-self-2 c =
     let placed = c.place_of.new.self in
     let at : line ≡ line_of T.format store.addr =
     c.line_of-line.ensures ∙ ap (λ (f : Layout). line_of f c.addr.result) c.format.ensures.value ∙ ap (line_of T.format) c.addr.ensures.value in
-    keep-event T (event_by c.args.thread (Store store)) (Stores line store) c.push.new.trace placed.lines c.store.new.self c.in_ok-push.ensures.ok
+    keep-event T (event_by c.args.thread (Store store)) (Stores line store) c.push.new.trace placed.rows.places c.store.new.self c.in_ok-push.ensures.ok
     (ap (λ (l : ℕ). Stores l store) (sym at))
-    (c.store.ensures placed.lines h line store c.in_ok-place.ensures.here (with-placed _ h placed (c.in_ok-place.ensures.live c.self.inside.lines.lines h c.self.invariant)))
+    (c.store.ensures placed.rows.places h line store c.in_ok-place.ensures.here (with-placed _ h placed (c.in_ok-place.ensures.live c.self.inside.lines.rows.places h c.self.invariant)))
 
 pub addr-requires : goal.addr-requires
 addr-requires c = omega arith

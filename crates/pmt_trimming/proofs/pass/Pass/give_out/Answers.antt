@@ -8,7 +8,7 @@ returns-clause-passing c = λ T is decided.
     let count = c.args.count in
     record {
       format = is.format;
-      live = is.live;
+      lines = is.lines;
       all = omega (arith, is.all, ap length c.leave.ensures, length-drop count p.marks.items, c.requires.within);
       marks = marks-left T p.settled count p.marks.items _ c.leave.ensures is.marks;
       before = given-out T p.settled _ is.before decided;

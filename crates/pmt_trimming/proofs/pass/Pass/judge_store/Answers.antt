@@ -1,24 +1,35 @@
-use Rattle.std.proofs.Common.{length, refl}
+use Rattle.std.proofs.Common.{◌≡◌, suc, length, refl, subst, arith}
+use Rattle.pmt_model.specs.Findings.{last_flush}
 use Rattle.pmt_model.specs.Machine.{Stores}
 use Rattle.pmt_model.specs.Traces.{history, lines_of, with_line}
-use Rattle.pmt_live.proofs.LiveLemmas.{has-place, place-in}
-use Rattle.pmt_trimming.proofs.PassingLemmas.{judged, tells-stays, room-left}
+use Rattle.pmt_laws.proofs.Histories.{length-history}
+use Rattle.pmt_safety.specs.Safety.{last_line_store, safe_store}
+use Rattle.pmt_tables.specs.Places.{IsPlaceOf}
+use Rattle.pmt_rows.proofs.OpenLemmas.{waits-on}
+use Rattle.pmt_rows.proofs.RowLemmas.{has-place, stored-known}
+use Rattle.pmt_trimming.proofs.PassingLemmas.{judged, tells-stays}
 use Rattle.pmt_trimming.proofs.pass.Pass.judge_store.Goals as goal
 
-pub store-requires-clause-place : goal.store-requires-clause-place
-store-requires-clause-place c =
-    let before = c.requires.passing.1 in
-    has-place _ _ c.args.line c.in_ok-place.place _ c.in_ok-place.ensures.here (c.in_ok-place.ensures.live _ _ before.live)
-
-pub store-requires-clause-room : goal.store-requires-clause-room
-store-requires-clause-room c =
-    let before = c.requires.passing in
-    room-left before.0 c.args.self.now c.args.line _ before.1 c.requires.room (c.in_ok-place.ensures.live _ _ before.1.live)
+pub store-requires : goal.store-requires
+store-requires c =
+    let T = c.requires.passing.0 in
+    let h = history T (length T.events) in
+    let l = c.args.line in
+    let known = c.in_ok-place.ensures.known (lines_of h) (λ k. last_line_store k h) (λ k. safe_store k h) (λ k. last_flush k h) c.requires.passing.1.lines.rows in
+    has-place (with_line l (lines_of h)) (λ k. last_line_store k h) (λ k. safe_store k h) (λ k. last_flush k h) _ known l c.in_ok-place.place c.in_ok-place.ensures.here
 
 pub returns-clause-follows : goal.returns-clause-follows
 returns-clause-follows c = λ T e w is before.
-    let h = history T (length T.events) in
+    let n = length T.events in
+    let h = history T n in
     let l = c.args.line in
-    let known = c.in_ok-place.ensures.live (lines_of h) h before.live in
+    let lines = with_line l (lines_of h) in
+    let known = c.in_ok-place.ensures.known (lines_of h) (λ k. last_line_store k h) (λ k. safe_store k h) (λ k. last_flush k h) before.lines.rows in
+    let at = subst (IsPlaceOf l c.in_ok-place.place) known.placed c.in_ok-place.ensures.here in
+    let number : c.next_number-number.result ≡ suc (length h) = omega (arith, c.next_number-number.ensures, before.all, length-history T n (omega arith)) in
     judged T e (Stores l w) is c.args.self.now before _ _ refl refl refl
-    (c.store.ensures (with_line l (lines_of h)) h l w (place-in (with_line l (lines_of h)) h l c.in_ok-place.place _ c.in_ok-place.ensures.here known) known) (λ o fence. cc) (tells-stays T e (Stores l w) is refl)
+    (record {
+      rows = stored-known lines h l c.next_number-number.result w c.store.new.self number (c.store.ensures lines (λ k. last_line_store k h) (λ k. safe_store k h) (λ k. last_flush k h) l at known);
+      waiting = (waits-on last_line_store).others lines h _ (Stores l w) (λ t k e. cc) (λ t e. cc) ((waits-on last_line_store).line l (lines_of h) h _ before.lines.waiting);
+    })
+    (λ o fence. cc) (tells-stays T e (Stores l w) is refl)

@@ -6,7 +6,7 @@ use Rattle.pmt_trimming.proofs.pass.Pass.next_settled.Goals as goal
 pub returns-in-Some-clause-passing : goal.returns-in-Some-clause-passing
 returns-in-Some-clause-passing c = λ T before.
     let is = first-is c.args.self.now.marks.items c.in_ok-first.field-0 c.in_ok-first.ensures in
-    passing-less T c.args.self.now _ c.in_ok-first.field-0 c.in-Some.kept is.0 is.1 (sym c.decision.ensures ∙ c.in-Some.is) before refl refl c.pop.ensures refl
+    passing-less T c.args.self.now _ c.in_ok-first.field-0 c.in-Some.kept is.0 is.1 (sym c.decision.ensures ∙ c.in-Some.is) before refl refl refl c.pop.ensures refl
 
 pub returns-in-Some-clause-settles : goal.returns-in-Some-clause-settles
 returns-in-Some-clause-settles c = λ T before.

@@ -1,0 +1,8 @@
+use Rattle.std.proofs.Common.{ap}
+use Rattle.pmt_model.specs.Machine.{count}
+use Rattle.pmt_model.specs.Fronts.{front}
+use Rattle.pmt_rows.specs.declared.rows.Row.{Row}
+use Rattle.pmt_book.proofs.live.LiveLines.count.Goals as goal
+
+pub returns : goal.returns
+returns c = λ lines h l at is. ap (λ (y : Row). y.last_store) (c.row.ensures lines (λ k. count k h) (λ k. front k h) (λ k. 0) l at is.rows)

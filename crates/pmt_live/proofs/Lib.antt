@@ -1,4 +1,0 @@
-pub mod PlaceLemmas
-pub mod OpenLemmas
-pub mod LiveLemmas
-pub mod FencingLemmas

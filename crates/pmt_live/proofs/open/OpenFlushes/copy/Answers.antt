@@ -1,9 +1,0 @@
-use Rattle.std.proofs.Common.{arith}
-use Rattle.std.proofs.lemmas.Grind.{common_steps, elements}
-use Rattle.pmt_live.proofs.open.OpenFlushes.copy.Goals as goal
-
-pub loop-list-preserved : goal.loop-list-preserved
-loop-list-preserved c = grind (arith, common_steps)
-
-pub returns : goal.returns
-returns c = grind (arith, elements)
