@@ -280,7 +280,8 @@ class Explain(Checks):
                 self.expect_equal(f"{words} {option}", (done.returncode, done.stdout, written), (1, b"", told))
                 (folder / "o").unlink(missing_ok=True)
             self.expect_equal(f"{words} -o -", self.explain(*words, "-o", "-", "t", folder=folder).stdout, told)
-        for words in (["-o", "t", "t"], ["-o", "l", "--labels", "l", "t"], ["-o", "./t", "t"]):
+        (folder / "linked").hardlink_to(folder / "t")
+        for words in (["-o", "t", "t"], ["-o", "l", "--labels", "l", "t"], ["-o", "./t", "t"], ["-o", "linked", "t"]):
             done = self.explain(*words, folder=folder)
             self.expect(f"{words}", done.returncode == 2 and b"is read, and can not be written" in done.stderr, done.stderr)
         self.expect_equal("both are as they were", ((folder / "t").read_text(), (folder / "l").read_text()), (TWO_LOST, "1 a\n"))

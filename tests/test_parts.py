@@ -309,6 +309,10 @@ class Parts(UnderFaults):
         self.expect_equal("what stands", standing(folder / "run"), right_files() | kept)
         self.expect_equal("as one part", run_whole(self.program, "parts", "--out", str(folder / "run"), text=small_text().encode()).status, 0)
         self.expect_equal("what stands then", standing(folder / "run"), ONE | kept)
+        for number in (2, 3, 4):
+            (folder / f"run.{number:04}.trace").write_text("old")
+        answer = run_whole(self.program, "parts", *WORDS, "--out", str(folder / "run"), text=f"{small_text()}nonsense\n".encode())
+        self.expect("a fault in the last part", answer.status == 3 and set(standing(folder / "run")) == {path for path in right_files() | kept if not path.startswith(".0003")}, standing(folder / "run"))
 
     def test_a_trace_that_was_cut(self):
         """The last part says what the whole says, by its own number; what is not said right is refused before a part is written."""
@@ -427,6 +431,12 @@ class Parts(UnderFaults):
             self.expect_equal(f"{name}: the trace stays", trace.read_text(), small_text())
             self.expect_equal(f"{name}: what stands beside it stays", cut.read_text(), "10 a full disk\n")
             self.expect(f"{name}: the labels stay", str(labels) not in words or labels.read_text() == LABELS)
+
+    def test_a_line_that_is_too_long(self):
+        """It is told as that, though it ends."""
+        text = f"{HEAD}store 0 0x0 {'0' * 70_000_000}\n".encode()
+        answer = run_whole(self.program, "parts", "--out", str(self.new_folder() / "run"), text=text)
+        self.expect_equal("the fault", answer, Answer(3, b"", b"standard input:2: the line is too long: the text of a part has at most 67108864 bytes\n"))
 
     def test_any_length(self):
         """More events and more bytes than a trace has: saved records of one line each, and one line that is never flushed."""

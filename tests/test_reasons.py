@@ -1,4 +1,5 @@
 """What stands below the fixed line of a fault, at a terminal or with --verbose: the file and the reason, in the words of `explain`."""
+import os
 import subprocess
 
 from checks import Checks
@@ -134,11 +135,20 @@ class Reasons(Checks):
             told = shown_at_a_terminal([self.program, *words], self.folder)[1].replace("\r\n", "\n")
             self.expect(f"{words}", f"file fault\n{MISSING}" in told, told)
 
+    def test_build(self):
+        """In the log of a build it stands there too."""
+        for name, is_there in (("CI", True), ("GITHUB_ACTIONS", True), ("NO_SUCH_NAME", False)):
+            told = self.told(["check", "none"], env={**os.environ, name: "true"})
+            self.expect_equal(name, told, (4, b"", f"file fault\n{MISSING if is_there else ''}"))
+
     def test_tips(self):
-        """A file in the place of a command."""
+        """A file, or a program of its own, in the place of a command."""
         (self.folder / "my trace").write_bytes(SAVED)
         status, out, fault = self.told(["my trace"])
-        self.expect("a file", (status, out) == (2, b"") and fault.endswith("\ntip: 'my trace' is a file; to judge it: pmtrim check 'my trace'\n"), fault)
+        self.expect("a file", (status, out) == (2, b"") and fault == "error: 'my trace' is no command, but a file\ntip: pmtrim explain 'my trace'\n", fault)
+        for name in ("replay", "suite", "lines"):
+            status, out, fault = self.told([name, "my trace"])
+            self.expect(name, (status, out, fault) == (2, b"", f"error: '{name}' is no command of pmtrim, but a program of its own\ntip: pmtrim-{name} --help\n"), fault)
         for words in (["none"], ["."], ["/dev/null"], ["check", "my trace", "my trace"], ["--frob", "my trace"]):
             status, out, fault = self.told(words)
-            self.expect(f"{words}", (status, out) == (2, b"") and "to judge it" not in fault, fault)
+            self.expect(f"{words}", (status, out) == (2, b"") and "tip: pmtrim" not in fault, fault)

@@ -40,6 +40,9 @@ pub trait Opener {
     /// `System` where there is nothing with this name, or it can't be asked; `OutOfMemory`.
     fn real_name(&self, alloc: Global, name: &str) -> Result<String, OpenError>;
 
+    /// Whether both names are of one thing that is there, as of a file and of a link to it.
+    fn is_same(&self, name: &str, other: &str) -> bool;
+
     /// The writer of the file with this name, which is empty then.
     ///
     /// # Errors
@@ -90,8 +93,15 @@ impl<R: Files> Opener for SystemFiles<'_, R> {
         }
     }
 
+    fn is_same(&self, name: &str, other: &str) -> bool {
+        match (fs::metadata(self.rt, name), fs::metadata(self.rt, other)) {
+            (Ok(one), Ok(two)) => one.dev() == two.dev() && one.ino() == two.ino(),
+            _ => false,
+        }
+    }
+
     fn create(&self, name: &str, other: &str) -> Result<R::File, OpenError> {
-        if is_same(self.rt, name, other) {
+        if self.is_same(name, other) {
             return Err(OpenError::System(io::Error::from(ErrorKind::AlreadyExists)));
         }
         match fs::create(self.rt, name) {
@@ -112,13 +122,5 @@ fn open_error(error: io::Error) -> OpenError {
         OpenError::OutOfMemory
     } else {
         OpenError::System(error)
-    }
-}
-
-// Whether both names are of one file.
-fn is_same<R: Files>(rt: &R, name: &str, other: &str) -> bool {
-    match (fs::metadata(rt, name), fs::metadata(rt, other)) {
-        (Ok(one), Ok(two)) => one.dev() == two.dev() && one.ino() == two.ino(),
-        _ => false,
     }
 }

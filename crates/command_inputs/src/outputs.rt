@@ -2,7 +2,7 @@
 
 use crate::fault::Fault;
 use crate::inputs::create_fault;
-use crate::opener::{OpenError, Opener};
+use crate::opener::Opener;
 use crate::reading::system_fault;
 use crate::writing::write_answer;
 use std::alloc::Global;
@@ -41,7 +41,7 @@ pub fn check_apart<O: Opener>(
     };
     for output in outputs {
         let name = output.name.as_str();
-        if is_same(alloc, files, name, input)? {
+        if files.is_same(name, input) {
             return Err(written_fault(alloc, name));
         }
     }
@@ -52,30 +52,6 @@ pub fn check_apart<O: Opener>(
 pub(crate) fn written_fault(alloc: Global, name: &str) -> Fault {
     let message = format!(in alloc; "'{name}' is read, and can not be written");
     Fault::usage_of(alloc, message)
-}
-
-// Whether both names are of one file that is there.
-fn is_same<O: Opener>(alloc: Global, files: &O, name: &str, other: &str) -> Result<bool, Fault> {
-    let Some(one) = real_name(alloc, files, name)? else {
-        return Ok(false);
-    };
-    match real_name(alloc, files, other)? {
-        Some(two) => Ok(one.as_str() == two.as_str()),
-        None => Ok(false),
-    }
-}
-
-// The absolute name of the file; none where there is no such file.
-pub(crate) fn real_name<O: Opener>(
-    alloc: Global,
-    files: &O,
-    name: &str,
-) -> Result<Option<String>, Fault> {
-    match files.real_name(alloc, name) {
-        Ok(found) => Ok(Some(found)),
-        Err(OpenError::System(_)) => Ok(None),
-        Err(OpenError::OutOfMemory) => Err(Fault::OutOfMemory),
-    }
 }
 
 /// Writes the answer to the named file, which is none of those that were read, or to `out` where none is named.

@@ -2,7 +2,7 @@
 
 use crate::fault::Fault;
 use crate::opener::{OpenError, Opener};
-use crate::outputs::{real_name, written_fault};
+use crate::outputs::written_fault;
 use crate::reading::{reason, system_fault};
 use pmt_sources::SourcePlace;
 use std::alloc::{AllocError, Global};
@@ -112,7 +112,7 @@ impl SourceFolder {
         written: Option<&str>,
     ) -> Result<Self, Fault> {
         let written = match written {
-            Some(name) => real_name(alloc, files, name)?,
+            Some(name) => Some(String::from_str(alloc, name)?),
             None => None,
         };
         match files.real_name(alloc, given) {
@@ -158,16 +158,16 @@ impl SourceFolder {
         if below(top, real.as_str()).is_none() {
             return refused(alloc, OUTSIDE);
         }
-        if self.is_written(real.as_str()) {
+        if self.is_written(files, real.as_str()) {
             return Err(written_fault(alloc, name));
         }
         read_real(alloc, files, real.as_str())
     }
 
-    // Whether it is the real name of the file that is to be written.
-    fn is_written(&self, real: &str) -> bool {
+    // Whether it is the file that is to be written.
+    fn is_written<O: Opener>(&self, files: &O, real: &str) -> bool {
         match &self.written {
-            Some(written) => written.as_str() == real,
+            Some(written) => files.is_same(real, written.as_str()),
             None => false,
         }
     }

@@ -2,7 +2,7 @@
 ghost use Rattle.std.specs.Prelude.{◌≡◌, IfOk};
 
 use crate::ending::cut_text;
-use crate::stale::remove_beside;
+use crate::stale::{remove_beside, remove_later};
 use crate::told::part_text;
 use crate::writing::Beside;
 use command_inputs::{Fault, Opener, Output, check_apart, write_outputs};
@@ -72,7 +72,7 @@ impl Written {
 }
 
 /// Writes the part, its labels if a file of labels is named, and what tells of it, and counts it. What an earlier run left beside it is
-/// removed.
+/// removed, and before the first part its later parts are, so that parts of two runs never stand together.
 ///
 /// # Errors
 /// A usage fault where one of the files is read; the fault of a write, and none of them is left then; `OutOfMemory`.
@@ -109,6 +109,9 @@ pub(crate) fn write_part<O: Opener, R: Read + Drop>(
     }
     check_outputs(alloc, words, files, outputs.as_slice())?;
     remove_beside(alloc, words, files, name, turn.number)?;
+    if turn.number == 1 {
+        remove_later(alloc, words, files, turn.number)?;
+    }
     write_outputs(alloc, files, outputs.as_slice())?;
     Ok(Written {
         parts: turn.number,

@@ -5,7 +5,7 @@ use command_inputs::{Fault, Opener, remove_all};
 use command_requests::PartsWords;
 use std::alloc::Global;
 
-/// Removes the parts of an earlier run that stand after the last one, which has this number.
+/// Removes the parts of an earlier run that stand after the one with this number.
 ///
 /// # Errors
 /// A usage fault where one of them is read; `OutOfMemory`.

@@ -6,7 +6,6 @@ use crate::carried::check_carried;
 use crate::files::{Turn, Written, write_part};
 use crate::labels::PartLabels;
 use crate::reading::part_fault;
-use crate::stale::remove_later;
 use command_inputs::{Fault, Opener};
 use command_requests::PartsWords;
 use pmt_asked::Cut;
@@ -65,10 +64,7 @@ impl<O: Opener, R: Read + Drop> PartTaker for PartFiles<'_, O, R> {
             &turn,
             self.written,
         )?;
-        if !is_last {
-            return Ok(());
-        }
-        remove_later(alloc, self.words, self.files, number)
+        Ok(())
     }
 
     // It carries no more than half of the most events.

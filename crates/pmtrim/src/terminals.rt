@@ -1,16 +1,16 @@
-//! At which streams a person sits.
+//! Which streams a person reads.
 
-/// At which streams a person sits.
+/// Which streams a person reads.
 #[derive(Clone, Copy)]
 pub struct Terminals {
-    /// Whether faults go to a terminal.
+    /// Whether faults go to a terminal, or into the log of a build.
     pub faults: bool,
     /// Whether answers go to a terminal that is to show colors.
     pub colors: bool,
 }
 
 impl Terminals {
-    /// No stream is a terminal.
+    /// A program reads all of them.
     pub const NONE: Terminals = Terminals {
         faults: false,
         colors: false,
