@@ -3,7 +3,7 @@ from checks import Checks, add_tests
 from documents import expect_shown
 from needs import need_valgrind
 
-PAGES = ("GUIDE", "COMMANDS", "MODEL", "FORMAT", "EXPLAIN", "REPLAY", "SLICE", "STAT", "PARTS", "IMAGE")
+PAGES = ("GUIDE", "COMMANDS", "FORMAT", "REPLAY", "SLICE", "STAT", "PARTS", "IMAGE")
 
 
 def setUpModule():
