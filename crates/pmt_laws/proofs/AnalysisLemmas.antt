@@ -53,11 +53,7 @@ same_members {A = A} R apart (x ∷ xs) (y ∷ ys) o p there back =
 comes_apart : (f g : Finding) → ComesFirst f g → ComesFirst g f → ⊥
 comes_apart (Overwritten j i) (Overwritten k m) h b = omega arith
 comes_apart (Overwritten j i) (NeverPersisted m w) h b = b
-comes_apart (Overwritten j i) (RedundantFlush m) h b = h
-comes_apart (Overwritten j i) (FenceWithoutFlush m) h b = h
-comes_apart (NeverPersisted i w) g h b = h
-comes_apart (RedundantFlush i) g h b = h
-comes_apart (FenceWithoutFlush i) g h b = h
+comes_apart a c h b = h
 
 comes_after : (f g h : Finding) → ComesFirst f g → ComesFirst g h → ComesFirst f h
 comes_after (Overwritten j i) (Overwritten k m) (Overwritten l n) a b = omega arith
@@ -65,11 +61,7 @@ comes_after (Overwritten j i) (Overwritten k m) (NeverPersisted n w) a b = tt
 comes_after (Overwritten j i) (Overwritten k m) (RedundantFlush n) a b = b
 comes_after (Overwritten j i) (Overwritten k m) (FenceWithoutFlush n) a b = b
 comes_after (Overwritten j i) (NeverPersisted m w) h a b = absurd b
-comes_after (Overwritten j i) (RedundantFlush m) h a b = absurd a
-comes_after (Overwritten j i) (FenceWithoutFlush m) h a b = absurd a
-comes_after (NeverPersisted i w) g h a b = absurd a
-comes_after (RedundantFlush i) g h a b = absurd a
-comes_after (FenceWithoutFlush i) g h a b = absurd a
+comes_after c d h a b = absurd a
 
 reported_apart : Apart IsReportedBefore
 reported_apart f g (inl a) (inl b) = omega arith

@@ -2,7 +2,7 @@
 use Rattle.std.proofs.Common.{◌≡◌, ℕ, suc, ◌≤◌, ◌==◌, true, false, if◌then◌else◌, List, [], ◌∷◌, ◌++◌, Option, Some, None, IfSome, IsSomeAnd, inl, inr, refl, sym, ◌∙◌, ap, subst, le_trans, le_of_eq, arith}
 use Rattle.std.proofs.lemmas.Option.{IfSome_then}
 use Rattle.std.proofs.lemmas.Bool.Decides.{eqb_tells}
-use Rattle.pmt_model.specs.Machine.{Act, Stores, Flushes, Clflushes, Fences, Asserts, count, writes, State, Ends, IsMoment}
+use Rattle.pmt_model.specs.Machine.{Act, Stores, Clflushes, Fences, count, writes, State, Ends, IsMoment}
 use Rattle.pmt_model.specs.Fronts.{front}
 use Rattle.pmt_model.specs.Boxes.{InBox}
 use Rattle.pmt_model.specs.Assertions.{Placed, last_store, IsPersisted, InSpan, PersistPasses, OrderedPasses, PersistByFronts, up_to_last, NoLater, OrderedByFronts}
@@ -38,10 +38,7 @@ up_to_last_suffix b (Stores k w ∷ h) =
       | true ↦ ([], refl)
       | false ↦ let r = up_to_last_suffix b h in (Stores k w ∷ r.0, ap (λ g. Stores k w ∷ g) r.1)
     ]
-up_to_last_suffix b (Flushes t k ∷ h) = let r = up_to_last_suffix b h in (Flushes t k ∷ r.0, ap (λ g. Flushes t k ∷ g) r.1)
-up_to_last_suffix b (Clflushes k ∷ h) = let r = up_to_last_suffix b h in (Clflushes k ∷ r.0, ap (λ g. Clflushes k ∷ g) r.1)
-up_to_last_suffix b (Fences t ∷ h) = let r = up_to_last_suffix b h in (Fences t ∷ r.0, ap (λ g. Fences t ∷ g) r.1)
-up_to_last_suffix b (Asserts ∷ h) = let r = up_to_last_suffix b h in (Asserts ∷ r.0, ap (λ g. Asserts ∷ g) r.1)
+up_to_last_suffix b (a ∷ h) = let r = up_to_last_suffix b h in (a ∷ r.0, ap (λ g. a ∷ g) r.1)
 
 -- Newer acts take no store away.
 pub count-append : (l : ℕ) (newer h : List Act) → count l h ≤ count l (newer ++ h)
@@ -56,20 +53,16 @@ last_rank b (Stores k w ∷ h) =
       | true ↦ count-store k k w h refl
       | false ↦ last_rank b h
     ]
-last_rank b (Flushes t k ∷ h) = last_rank b h
-last_rank b (Clflushes k ∷ h) = last_rank b h
-last_rank b (Fences t ∷ h) = last_rank b h
-last_rank b (Asserts ∷ h) = last_rank b h
+last_rank b (a ∷ h) = last_rank b h
 
 -- The front up to the last store to a byte is no more than the front.
 pub front-up_to_last : (l b : ℕ) (h : List Act) → front l (up_to_last b h) ≤ front l h
 front-up_to_last l b [] = omega arith
 front-up_to_last l b (Stores k w ∷ h) =
     elim (writes w b) as (λ t. front l (if t then Stores k w ∷ h else up_to_last b h) ≤ front l h) [ true ↦ omega arith | false ↦ front-up_to_last l b h ]
-front-up_to_last l b (Flushes t k ∷ h) = front-up_to_last l b h
 front-up_to_last l b (Clflushes k ∷ h) = le_trans (front-up_to_last l b h) (front-grows l (Clflushes k) h)
 front-up_to_last l b (Fences t ∷ h) = omega (arith, front-up_to_last l b h)
-front-up_to_last l b (Asserts ∷ h) = front-up_to_last l b h
+front-up_to_last l b (a ∷ h) = front-up_to_last l b h
 
 -- Where the last store to a byte is among the older acts, the front up to it is no more than theirs.
 pub front_by_then :
@@ -81,10 +74,7 @@ front_by_then b l (Stores k w ∷ newer) h =
       | true ↦ λ among. absurd (omega (arith, count-append k newer h, among))
       | false ↦ front_by_then b l newer h
     ]
-front_by_then b l (Flushes t k ∷ newer) h = front_by_then b l newer h
-front_by_then b l (Clflushes k ∷ newer) h = front_by_then b l newer h
-front_by_then b l (Fences t ∷ newer) h = front_by_then b l newer h
-front_by_then b l (Asserts ∷ newer) h = front_by_then b l newer h
+front_by_then b l (a ∷ newer) h = front_by_then b l newer h
 
 -- Counts of persisted stores after a history that ends with store y: y is persisted, and no more than has to be.
 abbrev pub just_persisted : Placed → List Act → ℕ → ℕ

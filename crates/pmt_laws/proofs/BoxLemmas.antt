@@ -2,10 +2,10 @@
 use Rattle.std.proofs.Common.{◌≡◌, ℕ, suc, ◌<◌, ◌≤◌, min, inl, inr, List, [], ◌∷◌, ◌==◌, refl, sym, ap, subst, subst₂, ◌↔◌, ◌∙◌, eq-eqb, eqb-true, ne_eqb, le_trans, arith}
 use Rattle.std.proofs.lemmas.Bool.{cond_both, cond-true, cond-false, cases_lt, cases_eq}
 use Rattle.pmt_model.specs.Values.{Written}
-use Rattle.pmt_model.specs.Machine.{Act, Stores, Flushes, Clflushes, Fences, Asserts, State, Allows, Leads, Stays, Acts, Persists, Ends, Vectors, count, start, after, after_persist, outstanding_after}
+use Rattle.pmt_model.specs.Machine.{Act, Stores, Flushes, Clflushes, Fences, State, Allows, Leads, Stays, Acts, Persists, Ends, Vectors, count, start, after, after_persist, outstanding_after}
 use Rattle.pmt_model.specs.Fronts.{mark, front}
 use Rattle.pmt_model.specs.Boxes.{InBox, VectorsAreABox}
-use Rattle.pmt_laws.proofs.Histories.{mark-le-count, count-grows, front-grows, front-le-count}
+use Rattle.pmt_laws.proofs.Histories.{mark-le-count, count-grows, front-grows}
 use Rattle.pmt_laws.proofs.OutstandingFlushes.{owing, OwesAtMost, mark-le_owed, owed_from_marks}
 
 -- what holds of each state that a run comes to
@@ -15,16 +15,11 @@ pub record IsReached (s : State) : Type 0 where
 
 -- outstanding flushes are added as the history says
 pub owes-after : (s : State) (a : Act) → s.outstanding ≡ owing s.history → outstanding_after s a ≡ owing (a ∷ s.history)
-owes-after s (Stores l w) owes = owes
 owes-after s (Flushes t l) owes = ap (λ os. record { thread = t; line = l; stores = count l s.history } ∷ os) owes
-owes-after s (Clflushes l) owes = owes
-owes-after s (Fences t) owes = owes
-owes-after s Asserts owes = owes
+owes-after s a owes = owes
 
 -- an act that may come raises no front above what is persisted
 pub front-after : (s : State) (a : Act) → IsReached s → Allows s a → (l : ℕ) → front l (a ∷ s.history) ≤ s.persisted l
-front-after s (Stores k w) reached allowed l = (reached.box l).0
-front-after s (Flushes t k) reached allowed l = (reached.box l).0
 front-after s (Clflushes k) reached allowed l =
     cond_both (k == l) (count l s.history) (front l s.history) (λ x. x ≤ s.persisted l)
     (λ same. subst (λ j. count j s.history ≤ s.persisted j) (eqb-true k l same) (omega arith))
@@ -33,7 +28,7 @@ front-after s (Fences t) reached allowed l =
     let waited = mark-le_owed t l s.persisted s.history (subst (OwesAtMost t s.persisted) reached.owes allowed) in
     let old = (reached.box l).0 in
     omega arith
-front-after s Asserts reached allowed l = (reached.box l).0
+front-after s a reached allowed l = (reached.box l).0
 
 -- a state that is reached stays so under an act
 pub reached-after : (s : State) (a : Act) → IsReached s → Allows s a → IsReached (after s a)
@@ -140,14 +135,6 @@ planned-next v (Stores k w) h fronts s plan =
       | inl more ↦ (after_persist (after s (Stores k w)) k, planned-persist v k w h s more plan)
       | inr enough ↦ (after s (Stores k w), planned-pending v k w h s enough plan)
     ]
-planned-next v (Flushes t k) h fronts s plan = (
-  after s (Flushes t k),
-  record {
-    path = Acts (Flushes t k) plan.path tt;
-    is_history = ap (λ history. Flushes t k ∷ history) plan.is_history;
-    persisted = plan.persisted;
-  },
-)
 planned-next v (Clflushes k) h fronts s plan =
     let reach = fronts k in
     let front = front-flush_now k h in
@@ -172,11 +159,11 @@ planned-next v (Fences t) h fronts s plan =
   where
     reached : (l : ℕ) → mark t l h ≤ s.persisted l
     reached l = let reach = fronts l in let done = plan.persisted l in let few = mark-le-count t l h in omega arith
-planned-next v Asserts h fronts s plan = (
-  after s Asserts,
+planned-next v a h fronts s plan = (
+  after s a,
   record {
-    path = Acts Asserts plan.path tt;
-    is_history = ap (λ history. Asserts ∷ history) plan.is_history;
+    path = Acts a plan.path tt;
+    is_history = ap (λ history. a ∷ history) plan.is_history;
     persisted = plan.persisted;
   },
 )
@@ -200,25 +187,6 @@ vectors_are_a_box h v = (
   λ x l. subst (λ n. (front l h ≤ n) × (n ≤ count l h)) (x.2 l) (ends-box h x.0 x.1 l),
   λ box. box-ends h v box,
 )
-
--- some run ends with nothing persisted but what has to be
-pub least-vector : (h : List Act) → Vectors h (λ l. front l h)
-least-vector h = box-ends h (λ l. front l h) (λ l. (omega arith, front-le-count l h))
-
--- and some with all persisted
-pub greatest-vector : (h : List Act) → Vectors h (λ l. count l h)
-greatest-vector h = box-ends h (λ l. count l h) (λ l. (front-le-count l h, omega arith))
-
--- no run ends with less than the front persisted
-pub vector-ge_front : (h : List Act) (v : ℕ → ℕ) → Vectors h v → (l : ℕ) → front l h ≤ v l
-vector-ge_front h v x l = ((vectors_are_a_box h v).0 x l).0
-
--- where runs end with the same counts, the fronts are the same
-pub same_vectors-front : (h k : List Act) → ((v : ℕ → ℕ) → Vectors h v ↔ Vectors k v) → (l : ℕ) → front l h ≡ front l k
-same_vectors-front h k same l =
-    let one = vector-ge_front k (λ j. front j h) ((same (λ j. front j h)).0 (least-vector h)) l in
-    let other = vector-ge_front h (λ j. front j k) ((same (λ j. front j k)).1 (least-vector k)) l in
-    omega arith
 
 -- where fronts and counts are the same, runs end with the same counts
 pub same_fronts-vectors : (h k : List Act) → ((l : ℕ) → front l h ≡ front l k) → ((l : ℕ) → count l h ≡ count l k) → (v : ℕ → ℕ) → Vectors h v ↔ Vectors k v

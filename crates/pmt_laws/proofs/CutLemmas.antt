@@ -2,7 +2,7 @@
 use Rattle.std.proofs.Common.{◌≡◌, ℕ, zero, suc, ◌<◌, ◌≤◌, ◌⊎◌, ◌==◌, false, if◌then◌else◌, List, [], ◌∷◌, length, Some, slice_get, filter_map, refl, sym, ◌∙◌, ap, inl, inr, ⊎_elim, arith}
 use Rattle.std.proofs.lemmas.Bool.{le-leb, lt-leb, cases_eq, cases_lt, false_from_ne_true, true≢false}
 use Rattle.pmt_model.specs.declared.event.Event.{Event}
-use Rattle.pmt_model.specs.Machine.{Act, Stores, Flushes, Clflushes, Fences, Asserts, count}
+use Rattle.pmt_model.specs.Machine.{Act, Stores, Asserts, count}
 use Rattle.pmt_model.specs.Traces.{Recording, event, IsAct, history, count_at}
 use Rattle.pmt_model.specs.Selections.{IsRising, Has, always_stays, IsSelection, cut, matching_place}
 use Rattle.pmt_laws.proofs.Histories.{event-some, history-act, history-step}
@@ -129,13 +129,6 @@ cut-from T K m e s is = get-from T 0 K m e s.rising (are-there T K s) is
 pub cut-act : (T : Recording) (K : List ℕ) (n : ℕ) (a : Act) → IsSelection T K → Has K (suc n) → IsAct T (suc n) a → IsAct (cut T K) (suc (matching_place K n)) a
 cut-act T K n a s h is = (is.0, cut-event T K n is.0 s h is.1, is.2)
 
--- Each act of the cut is that of a kept event.
-pub cut-act_from : (T : Recording) (K : List ℕ) (m : ℕ) (a : Act) → IsSelection T K → IsAct (cut T K) (suc m) a →
-    (n : ℕ) × Has K (suc n) × (matching_place K n ≡ m) × IsAct T (suc n) a
-cut-act_from T K m a s is =
-    let from = cut-from T K m is.0 s is.1 in
-    (from.0, from.1, from.2, (is.0, from.3, is.2))
-
 -- At a kept event the history of the cut grows by the same act.
 pub history-kept : (T : Recording) (K : List ℕ) (n : ℕ) (a : Act) → IsSelection T K → Has K (suc n) → IsAct T (suc n) a →
     history (cut T K) (matching_place K (suc n)) ≡ a ∷ history (cut T K) (matching_place K n)
@@ -173,18 +166,13 @@ history-zero T K s = ap (history (cut T K)) (place-low 0 K 0 s.rising (omega ari
 -- One more act brings equal counts to equal counts.
 count-same : (l : ℕ) (a : Act) (g h : List Act) → count l g ≡ count l h → count l (a ∷ g) ≡ count l (a ∷ h)
 count-same l (Stores k w) g h e = ap (λ c. if k == l then suc c else c) e
-count-same l (Flushes t k) g h e = e
-count-same l (Clflushes k) g h e = e
-count-same l (Fences t) g h e = e
-count-same l Asserts g h e = e
+count-same l a g h e = e
 
 -- An act that need not stay is no store.
 count-dropped : (l : ℕ) (a : Act) (h : List Act) → always_stays a ≡ false → count l (a ∷ h) ≡ count l h
 count-dropped l (Stores k w) h e = absurd (true≢false e)
-count-dropped l (Flushes t k) h e = refl
-count-dropped l (Clflushes k) h e = refl
-count-dropped l (Fences t) h e = refl
 count-dropped l Asserts h e = absurd (true≢false e)
+count-dropped l a h e = refl
 
 -- The cut has the same counts of stores at matching places.
 pub count-cut : (T : Recording) (K : List ℕ) (l n : ℕ) → IsSelection T K → count_at (cut T K) l (matching_place K n) ≡ count_at T l n

@@ -3,7 +3,7 @@ use Rattle.std.proofs.Common.{◌≡◌, ℕ, zero, suc, ◌-◌, ◌<◌, ◌�
 use Rattle.std.proofs.lemmas.Bool.{cases_eq, cases_lt}
 use Rattle.std.proofs.lemmas.List.{take-append-le, length-append}
 use Rattle.pmt_model.specs.declared.event.Event.{Event}
-use Rattle.pmt_model.specs.Machine.{Act, Stores, Flushes, Clflushes, Fences, Asserts}
+use Rattle.pmt_model.specs.Machine.{Act, Flushes, Clflushes, Fences}
 use Rattle.pmt_model.specs.Traces.{Recording, act, event, IsAct, history}
 use Rattle.pmt_model.specs.Selections.{always_stays}
 use Rattle.pmt_model.specs.Keeping.{IsUsefulFlush, IsKept, Stays, ByFence, ByFlush, ByClflush}
@@ -106,11 +106,8 @@ decided_stays T more k d = (still_decided T more k d, (there, back))
 
 -- an act is a fence of the thread, or not
 fence-dec : (t : ℕ) (a : Act) → (a ≡ Fences t) ⊎ (a ≡ Fences t → ⊥)
-fence-dec t (Stores k w) = inr (λ e. cc)
-fence-dec t (Flushes u k) = inr (λ e. cc)
-fence-dec t (Clflushes k) = inr (λ e. cc)
 fence-dec t (Fences u) = elim (cases_eq u t) [ inl e ↦ inl (ap Fences e) | inr other ↦ inr (λ e. other (cc)) ]
-fence-dec t Asserts = inr (λ e. cc)
+fence-dec t a = inr (λ e. cc)
 
 -- A fence of the thread after event k, up to place n.
 abbrev IsFencedTo : Recording → ℕ → ℕ → ℕ → Type 0
@@ -157,11 +154,8 @@ open-or_decided T (suc i) h = elim (history-step T i) [
     flush t l is (inr none) = inl (record { thread = t; line = l; is_flush = is; unfenced = λ j after fence. none j after (act-within T j (Fences t) fence).1 fence })
 
     go : (a : Act) → IsAct T (suc i) a → IsOpenFlush T (suc i) ⊎ IsDecided T (suc i)
-    go (Stores k w) is = no_flush (Stores k w) is (λ t l e. cc)
     go (Flushes t l) is = flush t l is (fenced-dec T t (suc i) (length T.events))
-    go (Clflushes k) is = no_flush (Clflushes k) is (λ t l e. cc)
-    go (Fences u) is = no_flush (Fences u) is (λ t l e. cc)
-    go Asserts is = no_flush Asserts is (λ t l e. cc)
+    go a is = no_flush a is (λ t l e. cc)
 
 open-undecided : (T : Recording) (k : ℕ) → IsOpenFlush T k → ¬ IsDecided T k
 open-undecided T k o d = let fence = d.fenced o.thread o.line o.is_flush in o.unfenced fence.0 fence.1 fence.2

@@ -1,7 +1,7 @@
 -- A selection with the fronts of the trace at a place is faithful there.
 use Rattle.std.proofs.Common.{◌≡◌, ℕ, zero, suc, ◌≤◌, nat_lt, ◌-◌, false, if◌then◌else◌, List, ◌∷◌, slice_get, refl, sym, ◌∙◌, ap, subst}
 use Rattle.std.proofs.lemmas.Bool.{true≢false}
-use Rattle.pmt_model.specs.Machine.{Act, Stores, Flushes, Clflushes, Fences, Asserts, count, writes, image_of, Image, Crash, Vectors}
+use Rattle.pmt_model.specs.Machine.{Act, Stores, Asserts, count, writes, image_of, Image, Crash, Vectors}
 use Rattle.pmt_model.specs.Traces.{Recording, history}
 use Rattle.pmt_model.specs.Fronts.{front}
 use Rattle.pmt_model.specs.Boxes.{InBox, VectorsAreABox}
@@ -14,18 +14,13 @@ image-same : (persisted : ℕ → ℕ) (b : ℕ) (a : Act) (g h : List Act) → 
 image-same persisted b (Stores l w) g h counts e =
     ap (λ n. if nat_lt n (persisted l) then (if writes w b then slice_get w.bytes (b - w.addr) else image_of persisted g b) else image_of persisted g b) (counts l)
     ∙ ap (λ byte. if nat_lt (count l h) (persisted l) then (if writes w b then slice_get w.bytes (b - w.addr) else byte) else byte) e
-image-same persisted b (Flushes t l) g h counts e = e
-image-same persisted b (Clflushes l) g h counts e = e
-image-same persisted b (Fences t) g h counts e = e
-image-same persisted b Asserts g h counts e = e
+image-same persisted b a g h counts e = e
 
 -- An act that need not stay writes nothing.
 image-dropped : (persisted : ℕ → ℕ) (b : ℕ) (a : Act) (h : List Act) → always_stays a ≡ false → image_of persisted (a ∷ h) b ≡ image_of persisted h b
 image-dropped persisted b (Stores l w) h e = absurd (true≢false e)
-image-dropped persisted b (Flushes t l) h e = refl
-image-dropped persisted b (Clflushes l) h e = refl
-image-dropped persisted b (Fences t) h e = refl
 image-dropped persisted b Asserts h e = absurd (true≢false e)
+image-dropped persisted b a h e = refl
 
 -- With the same stores persisted, the cut leaves the same bytes at matching places.
 pub image-cut : (T : Recording) (K : List ℕ) (persisted : ℕ → ℕ) (b n : ℕ) → IsSelection T K →

@@ -2,7 +2,7 @@
 use Rattle.std.proofs.Common.{◌≡◌, ℕ, zero, suc, ◌<◌, ◌≤◌, max, ◌⊎◌, inl, inr, ◌∷◌, ◌&&◌, ◌==◌, refl, sym, ap, subst, subst₂, ◌∙◌, eqb-true, arith}
 use Rattle.std.proofs.lemmas.Bool.{cond_both, cases_lt, and_parts}
 use Rattle.std.proofs.lemmas.Option.{none-some}
-use Rattle.pmt_model.specs.Machine.{Act, Stores, Flushes, Clflushes, Fences, Asserts, count}
+use Rattle.pmt_model.specs.Machine.{Act, Flushes, Clflushes, Fences, count}
 use Rattle.pmt_model.specs.Traces.{Recording, IsAct, history, count_at}
 use Rattle.pmt_model.specs.Fronts.{IsCompleted, mark, front, front_at, FrontsAreGreatest}
 use Rattle.pmt_laws.proofs.Histories.{history-act, history-step, front-mono, mono-from_grows}
@@ -27,7 +27,6 @@ marked-suc T t l n c (inr x) = inr (record { flush = x.flush; is_flush = x.is_fl
 
 -- the mark at the next place, after one more act
 mark_of-act : (T : Recording) (t l n : ℕ) (a : Act) → IsAct T (suc n) a → IsMarkOf T t l n (mark t l (history T n)) → IsMarkOf T t l (suc n) (mark t l (a ∷ history T n))
-mark_of-act T t l n (Stores k w) is old = marked-suc T t l n (mark t l (history T n)) old
 mark_of-act T t l n (Flushes u k) is old =
     cond_both ((u == t) && (k == l)) (count l (history T n)) (mark t l (history T n)) (IsMarkOf T t l (suc n))
     (λ both.
@@ -39,9 +38,7 @@ mark_of-act T t l n (Flushes u k) is old =
       stores = ap (count l) (history-act T n (Flushes u k) is);
     }))
     (λ other. marked-suc T t l n (mark t l (history T n)) old)
-mark_of-act T t l n (Clflushes k) is old = marked-suc T t l n (mark t l (history T n)) old
-mark_of-act T t l n (Fences u) is old = marked-suc T t l n (mark t l (history T n)) old
-mark_of-act T t l n Asserts is old = marked-suc T t l n (mark t l (history T n)) old
+mark_of-act T t l n a is old = marked-suc T t l n (mark t l (history T n)) old
 
 -- a mark is 0, or what a flush marked
 pub mark-reached : (T : Recording) (t l n : ℕ) → IsMarkOf T t l n (mark t l (history T n))
@@ -90,8 +87,6 @@ front_of-fence T t l n c is (inr x) = inr (inl (record
 
 -- the front at the next place, after one more act
 front_of-act : (T : Recording) (l n : ℕ) (a : Act) → IsAct T (suc n) a → IsFrontOf T l n (front_at T l n) → IsFrontOf T l (suc n) (front l (a ∷ history T n))
-front_of-act T l n (Stores k w) is old = front_of-suc T l n (front_at T l n) old
-front_of-act T l n (Flushes u k) is old = front_of-suc T l n (front_at T l n) old
 front_of-act T l n (Clflushes k) is old =
     cond_both (k == l) (count l (history T n)) (front_at T l n) (IsFrontOf T l (suc n))
     (λ same. inr (inr (record {
@@ -110,7 +105,7 @@ front_of-act T l n (Fences t) is old =
           let e : front_at T l n ≡ max (front_at T l n) (mark t l (history T n)) = omega arith in
           subst (IsFrontOf T l (suc n)) e (front_of-suc T l n (front_at T l n) old)
     ]
-front_of-act T l n Asserts is old = front_of-suc T l n (front_at T l n) old
+front_of-act T l n a is old = front_of-suc T l n (front_at T l n) old
 
 -- a front is 0, or what a completed flush marked
 pub front-reached : (T : Recording) (l n : ℕ) → IsFrontOf T l n (front_at T l n)

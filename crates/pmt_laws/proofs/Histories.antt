@@ -5,7 +5,7 @@ use Rattle.std.proofs.Math.Seq.{take-suc}
 use Rattle.std.proofs.lemmas.List.{reverse-append, map-append, length-reverse, length-map, length-take, take_all}
 use Rattle.std.proofs.lemmas.Option.{slice_get_within, slice_get_past, get_or_from_slice_get, none-some, same_Some}
 use Rattle.pmt_model.specs.declared.event.Event.{Event}
-use Rattle.pmt_model.specs.Machine.{Act, Stores, Flushes, Clflushes, Fences, Asserts, count}
+use Rattle.pmt_model.specs.Machine.{Act, Stores, Flushes, Clflushes, Fences, count}
 use Rattle.pmt_model.specs.Traces.{Recording, act, event, IsAct, history, count_at}
 use Rattle.pmt_model.specs.Fronts.{mark, front, front_at}
 
@@ -93,36 +93,27 @@ greatest_choice false x y z p q = q
 -- an act lowers no count
 pub count-grows : (l : ℕ) (a : Act) (h : List Act) → count l h ≤ count l (a ∷ h)
 count-grows l (Stores k w) h = least_choice (k == l) (suc (count l h)) (count l h) (count l h) (omega arith) (omega arith)
-count-grows l (Flushes t k) h = omega arith
-count-grows l (Clflushes k) h = omega arith
-count-grows l (Fences t) h = omega arith
-count-grows l Asserts h = omega arith
+count-grows l a h = omega arith
 
 -- a mark is at most the count
 pub mark-le-count : (t l : ℕ) (h : List Act) → mark t l h ≤ count l h
 mark-le-count t l [] = omega arith
 mark-le-count t l (Stores k w ∷ h) = omega (arith, mark-le-count t l h, count-grows l (Stores k w) h)
 mark-le-count t l (Flushes u k ∷ h) = greatest_choice ((u == t) && (k == l)) (count l h) (mark t l h) (count l h) (omega arith) (mark-le-count t l h)
-mark-le-count t l (Clflushes k ∷ h) = mark-le-count t l h
-mark-le-count t l (Fences u ∷ h) = mark-le-count t l h
-mark-le-count t l (Asserts ∷ h) = mark-le-count t l h
+mark-le-count t l (a ∷ h) = mark-le-count t l h
 
 -- the front is at most the count
 pub front-le-count : (l : ℕ) (h : List Act) → front l h ≤ count l h
 front-le-count l [] = omega arith
 front-le-count l (Stores k w ∷ h) = omega (arith, front-le-count l h, count-grows l (Stores k w) h)
-front-le-count l (Flushes t k ∷ h) = front-le-count l h
 front-le-count l (Clflushes k ∷ h) = greatest_choice (k == l) (count l h) (front l h) (count l h) (omega arith) (front-le-count l h)
 front-le-count l (Fences t ∷ h) = omega (arith, front-le-count l h, mark-le-count t l h)
-front-le-count l (Asserts ∷ h) = front-le-count l h
+front-le-count l (a ∷ h) = front-le-count l h
 
 -- an act lowers no front
 pub front-grows : (l : ℕ) (a : Act) (h : List Act) → front l h ≤ front l (a ∷ h)
-front-grows l (Stores k w) h = omega arith
-front-grows l (Flushes t k) h = omega arith
 front-grows l (Clflushes k) h = least_choice (k == l) (count l h) (front l h) (front l h) (front-le-count l h) (omega arith)
-front-grows l (Fences t) h = omega arith
-front-grows l Asserts h = omega arith
+front-grows l a h = omega arith
 
 -- at most the next number is that number or at most this one
 equal_or_less : (m n : ℕ) → m ≤ suc n → (m ≡ suc n) ⊎ (m ≤ n)

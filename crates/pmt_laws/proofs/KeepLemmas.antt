@@ -1,7 +1,7 @@
 -- The list of the events that are kept: there is one, it is a selection, and it has the fronts of the trace at each place.
 use Rattle.std.proofs.Common.{◌≡◌, ℕ, zero, suc, ◌-◌, ◌<◌, ◌≤◌, ◌⊎◌, ◌==◌, ◌&&◌, Bool, true, false, if◌then◌else◌, List, [], ◌∷◌, length, refl, sym, ◌∙◌, ap, ap₂, subst, inl, inr, ⊎_elim, arith}
 use Rattle.std.proofs.lemmas.Bool.{cases_eq, cases_lt, cond-false, ne_eqb}
-use Rattle.pmt_model.specs.Machine.{Act, Stores, Flushes, Clflushes, Fences, Asserts, count}
+use Rattle.pmt_model.specs.Machine.{Act, Flushes, Clflushes, Fences, count}
 use Rattle.pmt_model.specs.Traces.{Recording, IsAct, history, count_at}
 use Rattle.pmt_model.specs.Fronts.{front, mark, front_at}
 use Rattle.pmt_model.specs.Boxes.{VectorsAreABox}
@@ -74,11 +74,8 @@ mark-same t l u k c d m n h g = go ((u == t) && (k == l))
 
 -- One more act of both keeps a mark at most the other.
 mark-kept : (t l : ℕ) (a : Act) (g h : List Act) → count l g ≡ count l h → mark t l g ≤ mark t l h → mark t l (a ∷ g) ≤ mark t l (a ∷ h)
-mark-kept t l (Stores k w) g h e le = le
 mark-kept t l (Flushes u k) g h e le = mark-same t l u k (count l g) (count l h) (mark t l g) (mark t l h) (omega arith) le
-mark-kept t l (Clflushes k) g h e le = le
-mark-kept t l (Fences u) g h e le = le
-mark-kept t l Asserts g h e le = le
+mark-kept t l a g h e le = le
 
 -- The marks of the cut are at most those of the trace.
 pub mark-cut-le : (T : Recording) (K : List ℕ) (t l n : ℕ) → IsSelection T K → mark t l (history (cut T K) (matching_place K n)) ≤ mark t l (history T n)
@@ -95,15 +92,13 @@ mark-cut-le T K t l (suc n) s = go (next-step T K n s) (mark-cut-le T K t l n s)
 
 -- One more act of both keeps a front at most the other.
 front-kept : (l : ℕ) (a : Act) (g h : List Act) → count l g ≡ count l h → ((t : ℕ) → mark t l g ≤ mark t l h) → front l g ≤ front l h → front l (a ∷ g) ≤ front l (a ∷ h)
-front-kept l (Stores k w) g h e marks le = le
-front-kept l (Flushes u k) g h e marks le = le
 front-kept l (Clflushes k) g h e marks le = go (k == l)
   where
     go : (b : Bool) → (if b then count l g else front l g) ≤ (if b then count l h else front l h)
     go true = omega arith
     go false = le
 front-kept l (Fences u) g h e marks le = omega (arith, marks u)
-front-kept l Asserts g h e marks le = le
+front-kept l a g h e marks le = le
 
 -- The fronts of a cut are at most those of the trace, whatever is selected.
 pub cut-front-le : (T : Recording) (K : List ℕ) (l n : ℕ) → IsSelection T K → front_at (cut T K) l (matching_place K n) ≤ front_at T l n
@@ -119,7 +114,6 @@ cut-front-le T K l (suc n) s = go (next-step T K n s) (cut-front-le T K l n s)
 
 -- An event that changes a front is kept.
 pub raising-is-kept : (T : Recording) (l n : ℕ) (a : Act) → IsAct T (suc n) a → (front_at T l (suc n) ≡ front_at T l n → ⊥) → IsKept T (suc n)
-raising-is-kept T l n (Stores k w) is changes = Stays (Stores k w) is refl
 raising-is-kept T l n (Flushes u k) is changes = absurd (changes (ap (front l) (history-act T n (Flushes u k) is)))
 raising-is-kept T l n (Clflushes k) is changes = go (cases_eq k l)
   where
@@ -136,7 +130,7 @@ raising-is-kept T l n (Fences t) is changes = ByFence (record {
   is_fence = is;
   raises = let before : suc n - 1 ≡ n = omega arith in λ same. changes (same ∙ ap (front_at T l) before);
 })
-raising-is-kept T l n Asserts is changes = Stays Asserts is refl
+raising-is-kept T l n a is changes = Stays a is refl
 
 -- A fence persists what its thread's flushes before it mark.
 pub front-at_fence : (T : Recording) (t l i k : ℕ) → IsAct T i (Flushes t l) → IsAct T k (Fences t) → i < k → count_at T l i ≤ front_at T l k
@@ -184,8 +178,6 @@ mark-from_kept T K t l (suc m) n s is has h =
 -- One more kept act keeps the front of the cut at least that of the trace.
 kept-front : (T : Recording) (K : List ℕ) (l n : ℕ) (a : Act) → IsKeep T K → IsAct T (suc n) a → front_at T l n ≤ front_at (cut T K) l (matching_place K n) →
     front l (a ∷ history T n) ≤ front l (a ∷ history (cut T K) (matching_place K n))
-kept-front T K l n (Stores k w) keep is le = le
-kept-front T K l n (Flushes u k) keep is le = le
 kept-front T K l n (Clflushes k) keep is le = go (k == l)
   where
     go : (b : Bool) → (if b then count_at T l n else front_at T l n) ≤ (if b then count_at (cut T K) l (matching_place K n) else front_at (cut T K) l (matching_place K n))
@@ -200,7 +192,7 @@ kept-front T K l n (Fences t) keep is le =
     omega (arith, flush.2.stores))
     (λ (no_more : mark t l (history T n) ≤ front_at T l n). omega arith)
     (cases_lt (front_at T l n) (mark t l (history T n)))
-kept-front T K l n Asserts keep is le = le
+kept-front T K l n a keep is le = le
 
 -- The fronts of the kept events are at least those of the trace.
 keep-front-ge : (T : Recording) (K : List ℕ) (l n : ℕ) → IsKeep T K → front_at T l n ≤ front_at (cut T K) l (matching_place K n)

@@ -37,21 +37,13 @@ there-act T i a is = ap (act_of_event T.format) is.1 ∙ ap (λ (b : Act). Some 
 
 -- The act is a fence by the thread.
 abbrev is_fence_of : ℕ → Option Act → Bool
-is_fence_of t None = false
-is_fence_of t (Some (Stores l w)) = false
-is_fence_of t (Some (Flushes u l)) = false
-is_fence_of t (Some (Clflushes l)) = false
 is_fence_of t (Some (Fences u)) = u == t
-is_fence_of t (Some Asserts) = false
+is_fence_of t a = false
 
 -- The act is a flush of the line by the thread.
 abbrev is_flush_of : ℕ → ℕ → Option Act → Bool
-is_flush_of t l None = false
-is_flush_of t l (Some (Stores k w)) = false
 is_flush_of t l (Some (Flushes u k)) = (u == t) && (k == l)
-is_flush_of t l (Some (Clflushes k)) = false
-is_flush_of t l (Some (Fences u)) = false
-is_flush_of t l (Some Asserts) = false
+is_flush_of t l a = false
 
 -- The test finds the fences of a thread.
 Decides-fence : (T : Recording) (t i : ℕ) → Decides (is_fence_of t (act_at T i)) (IsAct T i (Fences t))
@@ -101,9 +93,8 @@ first_or-first false b g r e h = cc
 
 -- It passes where the first two tests fail and the third passes.
 first_or-rest : (f b g r : Bool) → f ≡ false → g ≡ false → r ≡ true → first_or f b g r ≡ true
-first_or-rest true b g r e d h = cc
-first_or-rest false b true r e d h = cc
 first_or-rest false b false r e d h = h
+first_or-rest a b c r e d h = cc
 
 -- Of the m events after event n, a fence of the thread comes before any flush of the line by it, and the front just before that
 -- fence is below c.
@@ -226,10 +217,7 @@ differs T l i = not (front_at T l i == front_at T l (i - 1))
 abbrev some_differs : Recording → ℕ → List Act → Bool
 some_differs T i [] = false
 some_differs T i (Stores l w ∷ h) = differs T l i || some_differs T i h
-some_differs T i (Flushes t l ∷ h) = some_differs T i h
-some_differs T i (Clflushes l ∷ h) = some_differs T i h
-some_differs T i (Fences t ∷ h) = some_differs T i h
-some_differs T i (Asserts ∷ h) = some_differs T i h
+some_differs T i (a ∷ h) = some_differs T i h
 
 -- The test finds the lines whose front differs.
 Decides-differs : (T : Recording) (l i : ℕ) → Decides (differs T l i) (front_at T l i ≢ front_at T l (i - 1))
@@ -244,10 +232,7 @@ some_differs-tells T i (Stores l w ∷ h) e = go (some_differs-tells T i h) (or_
         (differs T l i ≡ true) ⊎ (some_differs T i h ≡ true) → (k : ℕ) × (front_at T k i ≢ front_at T k (i - 1))
     go rest (inl d) = (l, (Decides-differs T l i).0 d)
     go rest (inr d) = rest d
-some_differs-tells T i (Flushes t l ∷ h) e = some_differs-tells T i h e
-some_differs-tells T i (Clflushes l ∷ h) e = some_differs-tells T i h e
-some_differs-tells T i (Fences t ∷ h) e = some_differs-tells T i h e
-some_differs-tells T i (Asserts ∷ h) e = some_differs-tells T i h e
+some_differs-tells T i (a ∷ h) e = some_differs-tells T i h e
 
 -- A stored line whose front differs is found.
 tells-some_differs : (T : Recording) (l i : ℕ) (h : List Act) → 0 < count l h → front_at T l i ≢ front_at T l (i - 1) → some_differs T i h ≡ true
@@ -259,19 +244,15 @@ tells-some_differs T l i (Stores k w ∷ h) some apart = go (λ more. tells-some
     go rest (inr other) =
         let same = cond-false (k == l) (suc (count l h)) (count l h) (ne_eqb k l other) in
         or_right (differs T k i) (some_differs T i h) (rest (omega (arith, same)))
-tells-some_differs T l i (Flushes t k ∷ h) some apart = tells-some_differs T l i h some apart
-tells-some_differs T l i (Clflushes k ∷ h) some apart = tells-some_differs T l i h some apart
-tells-some_differs T l i (Fences t ∷ h) some apart = tells-some_differs T l i h some apart
-tells-some_differs T l i (Asserts ∷ h) some apart = tells-some_differs T l i h some apart
+tells-some_differs T l i (a ∷ h) some apart = tells-some_differs T l i h some apart
 
 -- The act with number i of the trace is kept.
 abbrev keeps_act : Recording → ℕ → Option Act → Bool
 keeps_act T i None = false
-keeps_act T i (Some (Stores l w)) = true
 keeps_act T i (Some (Flushes t l)) = is_needed T t l (count_at T l i) i (length T.events)
 keeps_act T i (Some (Clflushes l)) = differs T l i
 keeps_act T i (Some (Fences t)) = some_differs T i (history T i)
-keeps_act T i (Some Asserts) = true
+keeps_act T i (Some a) = true
 
 -- Event i is kept.
 abbrev is_kept : Recording → ℕ → Bool
@@ -287,7 +268,6 @@ differs-stored T l i apart =
 -- What the test of an act finds is kept.
 keeps_act-tells : (T : Recording) (i : ℕ) (o : Option Act) → act_at T i ≡ o → keeps_act T i o ≡ true → IsKept T i
 keeps_act-tells T i None is e = cc
-keeps_act-tells T i (Some (Stores l w)) is e = Stays (Stores l w) (act-there T i (Stores l w) is) refl
 keeps_act-tells T i (Some (Flushes t l)) is e =
     let need = is_needed-tells T t l (count_at T l i) i (length T.events) e in
     ByFlush
@@ -307,7 +287,7 @@ keeps_act-tells T i (Some (Clflushes l)) is e =
 keeps_act-tells T i (Some (Fences t)) is e =
     let found = some_differs-tells T i (history T i) e in
     ByFence (record { thread = t; line = found.0; is_fence = act-there T i (Fences t) is; raises = found.1 })
-keeps_act-tells T i (Some Asserts) is e = Stays Asserts (act-there T i Asserts is) refl
+keeps_act-tells T i (Some a) is e = Stays a (act-there T i a is) refl
 
 -- What is kept passes the test.
 tells-is_kept : (T : Recording) (i : ℕ) → IsKept T i → is_kept T i ≡ true

@@ -2,7 +2,7 @@
 use Rattle.std.proofs.Common.{◌≡◌, ℕ, zero, suc, ◌+◌, ◌-◌, ◌<◌, ◌≤◌, ◌==◌, List, [], ◌∷◌, ◌++◌, refl, sym, ap, subst, ◌∙◌, le_trans, arith}
 use Rattle.std.specs.List.{AllByRecursion}
 use Rattle.std.proofs.lemmas.Bool.{cond_both}
-use Rattle.pmt_model.specs.Machine.{Act, Stores, Flushes, Clflushes, Fences, Asserts, Outstanding, State, Leads, Stays, Acts, Persists, IsMoment, count, start, after, after_persist}
+use Rattle.pmt_model.specs.Machine.{Act, Stores, Flushes, Clflushes, Fences, Outstanding, State, Leads, Stays, Acts, Persists, IsMoment, count, start, after, after_persist}
 use Rattle.pmt_model.specs.Boxes.{InBox}
 use Rattle.pmt_laws.proofs.Histories.{count-grows}
 use Rattle.pmt_laws.proofs.OutstandingFlushes.{owing}
@@ -70,14 +70,7 @@ pub owing-le_count : (bound : ℕ → ℕ) (h : List Act) → ((l : ℕ) → cou
 owing-le_count bound [] most = tt
 owing-le_count bound (Stores k w ∷ h) most = owing-le_count bound h (λ l. le_trans (count-grows l (Stores k w) h) (most l))
 owing-le_count bound (Flushes t k ∷ h) most = (most k, owing-le_count bound h most)
-owing-le_count bound (Clflushes k ∷ h) most = owing-le_count bound h most
-owing-le_count bound (Fences t ∷ h) most = owing-le_count bound h most
-owing-le_count bound (Asserts ∷ h) most = owing-le_count bound h most
-
--- what is persisted for the flushes stays so
-still_persisted : (f g : ℕ → ℕ) (t : ℕ) (os : List Outstanding) → ((l : ℕ) → f l ≤ g l) → AllByRecursion (λ o. o.thread ≡ t → o.stores ≤ f o.line) os → AllByRecursion (λ o. o.thread ≡ t → o.stores ≤ g o.line) os
-still_persisted f g t [] grows done = tt
-still_persisted f g t (o ∷ os) grows done = (λ same. le_trans (done.0 same) (grows o.line), still_persisted f g t os grows done.1)
+owing-le_count bound (a ∷ h) most = owing-le_count bound h most
 
 -- all stores that flushes mark can persist
 persist_owed : (t : ℕ) (os : List Outstanding) (s : State) → Leads start s → AllByRecursion (λ o. o.stores ≤ count o.line s.history) os → (e : State) × Persisting s e × AllByRecursion (λ o. o.thread ≡ t → o.stores ≤ e.persisted o.line) os
@@ -94,8 +87,6 @@ persist_owed t (o ∷ os) s path within =
 
 -- persist steps can make any act possible
 pub act_possible : (s : State) → Leads start s → (a : Act) → (e : State) × Leads s e × (e.history ≡ a ∷ s.history)
-act_possible s path (Stores l w) = (after s (Stores l w), Acts (Stores l w) Stays tt, refl)
-act_possible s path (Flushes t l) = (after s (Flushes t l), Acts (Flushes t l) Stays tt, refl)
 act_possible s path (Clflushes l) =
     let few = (leads-box s path l).1 in
     let line = persist_line (count l s.history - s.persisted l) s l (omega arith) in (
@@ -111,7 +102,7 @@ act_possible s path (Fences t) =
       Acts (Fences t) ready.1.path (subst (AllByRecursion (λ o. o.thread ≡ t → o.stores ≤ ready.0.persisted o.line)) (sym ready.1.is_outstanding) ready.2),
       ap (λ h. Fences t ∷ h) ready.1.is_history,
     )
-act_possible s path Asserts = (after s Asserts, Acts Asserts Stays tt, refl)
+act_possible s path a = (after s a, Acts a Stays tt, refl)
 
 -- a run goes on with any acts
 pub acts_possible : (s : State) → Leads start s → (newer : List Act) → (e : State) × Leads s e × (e.history ≡ newer ++ s.history)
@@ -132,7 +123,3 @@ pub box-passes : (newer older : List Act) (v : ℕ → ℕ) → InBox older v �
 box-passes newer older v box =
     let run = box-ends older v box in
     (run.0, split-passes (newer ++ older) run.0 run.1.0 newer (ap (λ h. newer ++ h) (sym run.1.1)), run.1.1, run.2)
-
--- at a moment of a run of the history the counts lie in the box of the acts so far
-pub passes-box : (h : List Act) (s : State) → IsMoment h s → InBox s.history s.persisted
-passes-box h s passes = leads-box s passes.1

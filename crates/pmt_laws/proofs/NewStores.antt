@@ -2,7 +2,7 @@
 use Rattle.std.proofs.Common.{◌≡◌, ℕ, zero, suc, ◌<◌, ◌≤◌, ◌⊎◌, inl, inr, Bool, true, false, ◌∷◌, length, refl, sym, ap, subst, ◌∙◌, arith, eqb-true}
 use Rattle.std.specs.Prelude.{if◌then◌else◌, ◌==◌}
 use Rattle.pmt_model.specs.Values.{Written}
-use Rattle.pmt_model.specs.Machine.{Act, Stores, Flushes, Clflushes, Fences, Asserts, count}
+use Rattle.pmt_model.specs.Machine.{Act, Stores, count}
 use Rattle.pmt_model.specs.Traces.{Recording, IsAct, history, count_at}
 use Rattle.pmt_model.specs.Fronts.{front_at}
 use Rattle.pmt_model.specs.Findings.{IsSafe}
@@ -35,10 +35,7 @@ store-or-earlier T l n k w x earlier false same some = later-store T l n (count_
 store-by_act : (T : Recording) (l n : ℕ) (a : Act) → IsAct T (suc n) a → (0 < count_at T l n → IsLastStore T l n (count_at T l n)) →
     0 < count l (a ∷ history T n) → IsLastStore T l (suc n) (count l (a ∷ history T n))
 store-by_act T l n (Stores k w) x earlier some = store-or-earlier T l n k w x earlier (k == l) refl some
-store-by_act T l n (Flushes t k) x earlier some = later-store T l n (count_at T l n) (earlier some)
-store-by_act T l n (Clflushes k) x earlier some = later-store T l n (count_at T l n) (earlier some)
-store-by_act T l n (Fences t) x earlier some = later-store T l n (count_at T l n) (earlier some)
-store-by_act T l n Asserts x earlier some = later-store T l n (count_at T l n) (earlier some)
+store-by_act T l n a x earlier some = later-store T l n (count_at T l n) (earlier some)
 
 -- where there are stores there is a last one
 pub last-store : (T : Recording) (l n : ℕ) → 0 < count_at T l n → IsLastStore T l n (count_at T l n)

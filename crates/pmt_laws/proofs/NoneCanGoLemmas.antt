@@ -2,7 +2,7 @@
 use Rattle.std.proofs.Common.{◌≡◌, ◌≢◌, ℕ, zero, suc, ◌-◌, ◌<◌, ◌≤◌, ◌⊎◌, inl, inr, ◌==◌, ◌&&◌, Bool, true, false, max, List, [], ◌∷◌, length, refl, sym, ap, subst, ◌∙◌, arith, eqb-true}
 use Rattle.std.proofs.lemmas.Bool.{true≢false, cases_order, eqb-false, and_parts}
 use Rattle.std.specs.Prelude.{if◌then◌else◌}
-use Rattle.pmt_model.specs.Machine.{Act, Stores, Flushes, Clflushes, Fences, Asserts, count}
+use Rattle.pmt_model.specs.Machine.{Act, Flushes, Clflushes, Fences, count}
 use Rattle.pmt_model.specs.Traces.{Recording, IsAct, history, count_at}
 use Rattle.pmt_model.specs.Fronts.{front, mark, front_at}
 use Rattle.pmt_model.specs.Selections.{IsRising, Has, always_stays, IsSelection, cut, matching_place, IsFaithful}
@@ -133,11 +133,8 @@ flush-mark T S t l n u k false h other is has counts before = later-mark T S t l
 
 -- the mark of the cut after one more act that is kept
 act-mark : (T : Recording) (S : List ℕ) (t l n : ℕ) (a : Act) (h : List Act) → IsAct T (suc n) a → Has S (suc n) → count l h ≡ count_at T l n → KeptMark T S t l n (mark t l h) → KeptMark T S t l (suc n) (mark t l (a ∷ h))
-act-mark T S t l n (Stores k w) h is has counts before = later-mark T S t l n (mark t l h) before
 act-mark T S t l n (Flushes u k) h is has counts before = flush-mark T S t l n u k ((u == t) && (k == l)) h refl is has counts before
-act-mark T S t l n (Clflushes k) h is has counts before = later-mark T S t l n (mark t l h) before
-act-mark T S t l n (Fences u) h is has counts before = later-mark T S t l n (mark t l h) before
-act-mark T S t l n Asserts h is has counts before = later-mark T S t l n (mark t l h) before
+act-mark T S t l n a h is has counts before = later-mark T S t l n (mark t l h) before
 
 -- a mark in the cut is that of a flush which it keeps
 kept-mark : (T : Recording) (S : List ℕ) (t l n : ℕ) → IsSelection T S → KeptMark T S t l n (mark t l (history (cut T S) (matching_place S n)))

@@ -2,18 +2,15 @@
 use Rattle.std.proofs.Common.{◌≡◌, ℕ, ◌≤◌, List, [], ◌∷◌, ◌&&◌, ◌==◌, refl, subst, eq-eqb, eqb-true, le_trans, arith}
 use Rattle.std.specs.List.{AllByRecursion}
 use Rattle.std.proofs.lemmas.Bool.{cond_both, and_parts, and_from, cond-true}
-use Rattle.pmt_model.specs.Machine.{Act, Stores, Flushes, Clflushes, Fences, Asserts, Outstanding, count}
+use Rattle.pmt_model.specs.Machine.{Act, Flushes, Outstanding, count}
 use Rattle.pmt_model.specs.Fronts.{mark}
 use Rattle.pmt_laws.proofs.Histories.{mark-le-count}
 
 -- every flush of a history, the newest first, with the stores that it marked
 abbrev pub owing : List Act → List Outstanding
 owing [] = []
-owing (Stores l w ∷ h) = owing h
 owing (Flushes t l ∷ h) = record { thread = t; line = l; stores = count l h } ∷ owing h
-owing (Clflushes l ∷ h) = owing h
-owing (Fences t ∷ h) = owing h
-owing (Asserts ∷ h) = owing h
+owing (a ∷ h) = owing h
 
 -- the stores that the thread's flushes marked are at most so many, by line
 abbrev pub OwesAtMost : ℕ → (ℕ → ℕ) → List Outstanding → Type 0
@@ -26,33 +23,24 @@ mark-flush t l h = cond-true ((t == t) && (l == l)) (count l h) (mark t l h) (an
 -- a fence waits for every mark of its thread
 pub mark-le_owed : (t l : ℕ) (bound : ℕ → ℕ) (h : List Act) → OwesAtMost t bound (owing h) → mark t l h ≤ bound l
 mark-le_owed t l bound [] owed = omega arith
-mark-le_owed t l bound (Stores k w ∷ h) owed = mark-le_owed t l bound h owed
 mark-le_owed t l bound (Flushes u k ∷ h) owed =
     cond_both ((u == t) && (k == l)) (count l h) (mark t l h) (λ x. x ≤ bound l)
     (λ both.
     let parts = and_parts (u == t) (k == l) both in
     subst (λ j. count j h ≤ bound j) (eqb-true k l parts.1) (owed.0 (eqb-true u t parts.0)))
     (λ other. mark-le_owed t l bound h owed.1)
-mark-le_owed t l bound (Clflushes k ∷ h) owed = mark-le_owed t l bound h owed
-mark-le_owed t l bound (Fences u ∷ h) owed = mark-le_owed t l bound h owed
-mark-le_owed t l bound (Asserts ∷ h) owed = mark-le_owed t l bound h owed
+mark-le_owed t l bound (a ∷ h) owed = mark-le_owed t l bound h owed
 
 -- an older mark of the thread is at most the newer one
 pub mark-grows : (t l : ℕ) (a : Act) (h : List Act) → mark t l h ≤ mark t l (a ∷ h)
-mark-grows t l (Stores k w) h = omega arith
 mark-grows t l (Flushes u k) h = cond_both ((u == t) && (k == l)) (count l h) (mark t l h) (λ x. mark t l h ≤ x) (λ both. mark-le-count t l h) (λ other. omega arith)
-mark-grows t l (Clflushes k) h = omega arith
-mark-grows t l (Fences u) h = omega arith
-mark-grows t l Asserts h = omega arith
+mark-grows t l a h = omega arith
 
 -- a fence waits for no more than the marks of its thread
 pub owed_from_marks : (t : ℕ) (bound : ℕ → ℕ) (h : List Act) → ((l : ℕ) → mark t l h ≤ bound l) → OwesAtMost t bound (owing h)
 owed_from_marks t bound [] marked = tt
-owed_from_marks t bound (Stores k w ∷ h) marked = owed_from_marks t bound h marked
 owed_from_marks t bound (Flushes u k ∷ h) marked = (
   λ same. subst (λ x. x ≤ bound k) (mark-flush t k h) (subst (λ v. mark t k (Flushes v k ∷ h) ≤ bound k) same (marked k)),
   owed_from_marks t bound h (λ l. le_trans (mark-grows t l (Flushes u k) h) (marked l)),
 )
-owed_from_marks t bound (Clflushes k ∷ h) marked = owed_from_marks t bound h marked
-owed_from_marks t bound (Fences u ∷ h) marked = owed_from_marks t bound h marked
-owed_from_marks t bound (Asserts ∷ h) marked = owed_from_marks t bound h marked
+owed_from_marks t bound (a ∷ h) marked = owed_from_marks t bound h marked

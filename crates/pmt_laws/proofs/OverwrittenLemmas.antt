@@ -3,7 +3,7 @@ use Rattle.std.proofs.Common.{◌≡◌, ◌≢◌, ℕ, zero, suc, ◌-◌, ◌
 use Rattle.std.proofs.lemmas.Bool.{true≢false, cases_order, eqb-false}
 use Rattle.std.specs.Prelude.{if◌then◌else◌}
 use Rattle.pmt_model.specs.Values.{Written}
-use Rattle.pmt_model.specs.Machine.{Act, Stores, Flushes, Clflushes, Fences, Asserts, writes}
+use Rattle.pmt_model.specs.Machine.{Act, Stores, Flushes, Clflushes, writes}
 use Rattle.pmt_model.specs.Traces.{Recording, IsAct, history}
 use Rattle.pmt_model.specs.Findings.{IsFlushOf, ByFlush, ByClflush, IsOverwritten, OverwritesBefore, OverwrittenByNumbers, last_store_number, last_flush}
 use Rattle.pmt_laws.proofs.Histories.{act-unique, act-within, history-act, history-step, length-history}
@@ -79,10 +79,7 @@ store-tells T b n l w false not_it is before = later-writer T b n (last_store_nu
 -- the last writer after one more act
 act-tells : (T : Recording) (b n : ℕ) (a : Act) → IsAct T (suc n) a → LastWriter T b n (last_store_number b (history T n)) → LastWriter T b (suc n) (last_store_number b (a ∷ history T n))
 act-tells T b n (Stores l w) is before = store-tells T b n l w (writes w b) refl is before
-act-tells T b n (Flushes t l) is before = later-writer T b n (last_store_number b (history T n)) (no-store T b (suc n) (Flushes t l) is (λ k w e. cc)) before
-act-tells T b n (Clflushes l) is before = later-writer T b n (last_store_number b (history T n)) (no-store T b (suc n) (Clflushes l) is (λ k w e. cc)) before
-act-tells T b n (Fences t) is before = later-writer T b n (last_store_number b (history T n)) (no-store T b (suc n) (Fences t) is (λ k w e. cc)) before
-act-tells T b n Asserts is before = later-writer T b n (last_store_number b (history T n)) (no-store T b (suc n) Asserts is (λ k w e. cc)) before
+act-tells T b n a is before = later-writer T b n (last_store_number b (history T n)) (no-store T b (suc n) a is (λ k w e. cc)) before
 
 -- the number of the last store to a byte tells which event writes it last
 pub last_store_number-tells : (T : Recording) (b n : ℕ) → LastWriter T b n (last_store_number b (history T n))
@@ -155,8 +152,7 @@ act-flushes : (T : Recording) (l n : ℕ) (a : Act) → IsAct T (suc n) a → Is
 act-flushes T l n (Stores k w) is before = later-flush T l n (last_flush l (history T n)) (no-flush T l (suc n) (Stores k w) is (λ t e. cc) (λ e. cc)) before
 act-flushes T l n (Flushes t k) is before = flush-tells T t l n k (k == l) refl is before
 act-flushes T l n (Clflushes k) is before = clflush-tells T l n k (k == l) refl is before
-act-flushes T l n (Fences t) is before = later-flush T l n (last_flush l (history T n)) (no-flush T l (suc n) (Fences t) is (λ u e. cc) (λ e. cc)) before
-act-flushes T l n Asserts is before = later-flush T l n (last_flush l (history T n)) (no-flush T l (suc n) Asserts is (λ u e. cc) (λ e. cc)) before
+act-flushes T l n a is before = later-flush T l n (last_flush l (history T n)) (no-flush T l (suc n) a is (λ u e. cc) (λ e. cc)) before
 
 -- the number of the last flush of a line is that of its last flush
 pub last_flush-tells : (T : Recording) (l n : ℕ) → IsLastFlush T l n (last_flush l (history T n))

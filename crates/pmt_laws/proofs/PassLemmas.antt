@@ -4,7 +4,7 @@ use Rattle.std.specs.Prelude.{◌==◌, ◌&&◌, if◌then◌else◌, max}
 use Rattle.std.specs.List.{AllByRecursion}
 use Rattle.std.proofs.lemmas.Bool.{cases_lt, eqb-true, eq-eqb}
 use Rattle.std.proofs.lemmas.List.{map-append}
-use Rattle.pmt_model.specs.Machine.{Act, Stores, Flushes, Clflushes, Fences, Asserts, count}
+use Rattle.pmt_model.specs.Machine.{Act, Stores, Flushes, Clflushes, Fences, count}
 use Rattle.pmt_model.specs.Traces.{Recording, IsAct, history, count_at}
 use Rattle.pmt_model.specs.Fronts.{mark, front, front_at}
 use Rattle.pmt_model.specs.Selections.{always_stays, IsRising, Has}
@@ -52,18 +52,16 @@ most-le-count t l (Flushes u k ∷ h) = go (u == t) (most-le-count t l h)
     go : (b : Bool) → most l (open_flushes t h) ≤ count l h → most l (if b then open_flushes t h ++ flush ∷ [] else open_flushes t h) ≤ count l h
     go true le = rw (most-push l (open_flushes t h) flush) (pushed (k == l) refl le)
     go false le = le
-most-le-count t l (Clflushes k ∷ h) = most-le-count t l h
 most-le-count t l (Fences u ∷ h) = go (u == t) (most-le-count t l h)
   where
     go : (b : Bool) → most l (open_flushes t h) ≤ count l h → most l (if b then [] else open_flushes t h) ≤ count l h
     go true le = omega arith
     go false le = le
-most-le-count t l (Asserts ∷ h) = most-le-count t l h
+most-le-count t l (a ∷ h) = most-le-count t l h
 
 -- what the thread's last flush covers is open, or in the front
 pub fence_raises : FenceRaises
 fence_raises t l [] = refl
-fence_raises t l (Stores k w ∷ h) = fence_raises t l h
 fence_raises t l (Flushes u k ∷ h) = go (u == t) (fence_raises t l h)
   where
     flush : Flushed
@@ -92,7 +90,7 @@ fence_raises t l (Fences u ∷ h) = go (u == t) refl (fence_raises t l h)
         max (max (front l h) (mark u l h)) (mark t l h) ≡ max (max (front l h) (mark u l h)) (most l (if b then [] else open_flushes t h))
     go true e same = let thread : mark u l h ≡ mark t l h = ap (λ v. mark v l h) (eqb-true u t e) in omega arith
     go false e same = omega arith
-fence_raises t l (Asserts ∷ h) = fence_raises t l h
+fence_raises t l (a ∷ h) = fence_raises t l h
 
 -- ---- Which events the open flushes are
 
@@ -215,7 +213,6 @@ are_open T t (suc n) = elim (history-step T n) [
         open-same T t n (open_flushes t (history T n)) (λ l flush. no_flush l (act-unique T (suc n) a (Flushes t l) is flush)) (λ fence. no_fence (act-unique T (suc n) a (Fences t) is fence)) open_
 
     go : (a : Act) → IsAct T (suc n) a → AreOpen T t n (open_flushes t (history T n)) → AreOpen T t (suc n) (open_flushes t (a ∷ history T n))
-    go (Stores k w) is open_ = other (Stores k w) is (λ l e. cc) (λ e. cc) open_
     go (Flushes u l) is open_ = at (u == t) refl
       where
         within : n ≤ length T.events
@@ -225,13 +222,12 @@ are_open T t (suc n) = elim (history-step T n) [
             AreOpen T t (suc n) (if b then open_flushes t (history T n) ++ record { number = suc (length (history T n)); line = l; stores = count_at T l n } ∷ [] else open_flushes t (history T n))
         at true e = rw (length-history T n within) (open-more T t l n (open_flushes t (history T n)) (subst (λ v. IsAct T (suc n) (Flushes v l)) (eqb-true u t e) is) open_)
         at false e = other (Flushes u l) is (λ k same. let thread : u ≡ t = cc in true≢false (sym (eq-eqb u t thread) ∙ e)) (λ same. cc) open_
-    go (Clflushes k) is open_ = other (Clflushes k) is (λ l e. cc) (λ e. cc) open_
     go (Fences u) is open_ = at (u == t) refl
       where
         at : (b : Bool) → (u == t) ≡ b → AreOpen T t (suc n) (if b then [] else open_flushes t (history T n))
         at true e = open-none T t n (subst (λ v. IsAct T (suc n) (Fences v)) (eqb-true u t e) is)
         at false e = other (Fences u) is (λ k same. cc) (λ same. let thread : u ≡ t = cc in true≢false (sym (eq-eqb u t thread) ∙ e)) open_
-    go Asserts is open_ = other Asserts is (λ l e. cc) (λ e. cc) open_
+    go a is open_ = other a is (λ l e. cc) (λ e. cc) open_
 
 -- ---- What a fence decides
 

@@ -3,7 +3,7 @@ use Rattle.std.proofs.Common.{◌≡◌, ◌≢◌, ℕ, zero, suc, ◌-◌, ◌
 use Rattle.std.proofs.lemmas.Bool.{true≢false, cases_order, cases_lt, eqb-false, and_parts, and_from}
 use Rattle.std.specs.Prelude.{if◌then◌else◌}
 use Rattle.pmt_model.specs.Values.{Written}
-use Rattle.pmt_model.specs.Machine.{Act, Stores, Flushes, Clflushes, Fences, Asserts, count}
+use Rattle.pmt_model.specs.Machine.{Act, Stores, Flushes, Clflushes, Fences, count}
 use Rattle.pmt_model.specs.Traces.{Recording, IsAct, history, count_at}
 use Rattle.pmt_model.specs.Fronts.{front, front_at, open_mark}
 use Rattle.pmt_model.specs.Findings.{IsSafe, IsCovered, IsRedundantFlush, IsRedundantClflush, RedundantFlushByFronts, RedundantClflushByFronts}
@@ -70,10 +70,7 @@ here-store T l n k w false other is before = later-store T l n (count l (history
 -- the last store after one more act
 act-store : (T : Recording) (l n : ℕ) (a : Act) → IsAct T (suc n) a → LastStore T l n (count l (history T n)) → LastStore T l (suc n) (count l (a ∷ history T n))
 act-store T l n (Stores k w) is before = here-store T l n k w (k == l) refl is before
-act-store T l n (Flushes t k) is before = later-store T l n (count l (history T n)) before
-act-store T l n (Clflushes k) is before = later-store T l n (count l (history T n)) before
-act-store T l n (Fences t) is before = later-store T l n (count l (history T n)) before
-act-store T l n Asserts is before = later-store T l n (count l (history T n)) before
+act-store T l n a is before = later-store T l n (count l (history T n)) before
 
 -- where there are stores to a line, one of them is the last
 pub last-store : (T : Recording) (l n : ℕ) → LastStore T l n (count_at T l n)
@@ -182,14 +179,10 @@ fence-mark T t l n u false other is before =
 
 -- the open mark after one more act
 act-mark : (T : Recording) (t l n : ℕ) (a : Act) → IsAct T (suc n) a → OpenFlush T t l n (open_mark t l (history T n)) → OpenFlush T t l (suc n) (open_mark t l (a ∷ history T n))
-act-mark T t l n (Stores k w) is before =
-    later-mark T t l n (open_mark t l (history T n)) (other-act T (suc n) (Stores k w) (Flushes t l) is (λ e. cc)) (other-act T (suc n) (Stores k w) (Fences t) is (λ e. cc)) before
 act-mark T t l n (Flushes u k) is before = flush-mark T t l n u k ((u == t) && (k == l)) refl is before
-act-mark T t l n (Clflushes k) is before =
-    later-mark T t l n (open_mark t l (history T n)) (other-act T (suc n) (Clflushes k) (Flushes t l) is (λ e. cc)) (other-act T (suc n) (Clflushes k) (Fences t) is (λ e. cc)) before
 act-mark T t l n (Fences u) is before = fence-mark T t l n u (u == t) refl is before
-act-mark T t l n Asserts is before =
-    later-mark T t l n (open_mark t l (history T n)) (other-act T (suc n) Asserts (Flushes t l) is (λ e. cc)) (other-act T (suc n) Asserts (Fences t) is (λ e. cc)) before
+act-mark T t l n a is before =
+    later-mark T t l n (open_mark t l (history T n)) (other-act T (suc n) a (Flushes t l) is (λ e. cc)) (other-act T (suc n) a (Fences t) is (λ e. cc)) before
 
 -- the open mark is that of the thread's last flush of the line, if it has not fenced since
 pub open_mark-tells : (T : Recording) (t l n : ℕ) → OpenFlush T t l n (open_mark t l (history T n))

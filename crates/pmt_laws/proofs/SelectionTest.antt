@@ -1,8 +1,8 @@
 -- A test for the selections of a trace. It computes, so it settles a written-out selection.
-use Rattle.std.proofs.Common.{◌≡◌, ℕ, zero, suc, ◌≤◌, ◌⊎◌, ◌==◌, ◌&&◌, ◌||◌, Bool, true, false, List, [], ◌∷◌, length, Option, Some, None, sym, ◌∙◌, ap, subst, inl, inr, arith}
+use Rattle.std.proofs.Common.{◌≡◌, ℕ, zero, suc, ◌≤◌, ◌⊎◌, ◌==◌, ◌&&◌, ◌||◌, Bool, true, false, List, [], ◌∷◌, length, Option, Some, sym, ◌∙◌, ap, subst, inl, inr, arith}
 use Rattle.std.specs.Prelude.{nat_lt, nat_le}
 use Rattle.std.proofs.lemmas.Bool.{and_parts, or_cases, ltb-true, leb-true, eqb-true, cases_eq}
-use Rattle.pmt_model.specs.Machine.{Act, Stores, Flushes, Clflushes, Fences, Asserts}
+use Rattle.pmt_model.specs.Machine.{Act, Stores, Asserts}
 use Rattle.pmt_model.specs.Traces.{Recording, IsAct}
 use Rattle.pmt_model.specs.Selections.{IsRising, Has, always_stays, IsSelection}
 use Rattle.pmt_laws.proofs.Histories.{act-within}
@@ -20,12 +20,9 @@ has_number (k ∷ ks) n = (k == n) || has_number ks n
 
 -- The act, if there is one, may go, or its number is one of the list.
 abbrev may_go : List ℕ → ℕ → Option Act → Bool
-may_go K n None = true
 may_go K n (Some (Stores l w)) = has_number K n
-may_go K n (Some (Flushes t l)) = true
-may_go K n (Some (Clflushes l)) = true
-may_go K n (Some (Fences t)) = true
 may_go K n (Some Asserts) = has_number K n
+may_go K n a = true
 
 -- Of the first n events those that always stay are of the list.
 abbrev is_whole : Recording → List ℕ → ℕ → Bool
@@ -68,10 +65,8 @@ has_number-has (k ∷ ks) n e = go (has_number-has ks n) (or_cases (k == n) (has
 -- An act that always stays is of the list, where the test passes.
 may_go-has : (K : List ℕ) (n : ℕ) (a : Act) → may_go K n (Some a) ≡ true → always_stays a ≡ true → Has K n
 may_go-has K n (Stores l w) e stays = has_number-has K n e
-may_go-has K n (Flushes t l) e stays = cc
-may_go-has K n (Clflushes l) e stays = cc
-may_go-has K n (Fences t) e stays = cc
 may_go-has K n Asserts e stays = has_number-has K n e
+may_go-has K n a e stays = cc
 
 -- The events that always stay are of the list.
 is_whole-has : (T : Recording) (K : List ℕ) (n i : ℕ) (a : Act) → is_whole T K n ≡ true → i ≤ n → IsAct T i a → always_stays a ≡ true → Has K i

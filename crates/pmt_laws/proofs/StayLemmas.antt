@@ -4,7 +4,7 @@ use Rattle.std.proofs.lemmas.Bool.{le-leb}
 use Rattle.std.proofs.lemmas.Option.{IfSome_then, none-some}
 use Rattle.pmt_model.specs.Values.{Span}
 use Rattle.pmt_model.specs.declared.event.Event.{Event}
-use Rattle.pmt_model.specs.Machine.{Act, Stores, Flushes, Clflushes, Fences, Asserts, count, writes}
+use Rattle.pmt_model.specs.Machine.{Act, Stores, count, writes}
 use Rattle.pmt_model.specs.Traces.{Recording, event, IsAct, history, count_at}
 use Rattle.pmt_model.specs.Fronts.{front, front_at}
 use Rattle.pmt_model.specs.Selections.{Has, always_stays, IsSelection, cut, matching_place}
@@ -27,18 +27,12 @@ last_store-same b (Stores k w) g h c e =
       | true ↦ ap stored (c k)
       | false ↦ e
     ]
-last_store-same b (Flushes t k) g h c e = e
-last_store-same b (Clflushes k) g h c e = e
-last_store-same b (Fences t) g h c e = e
-last_store-same b Asserts g h c e = e
+last_store-same b a g h c e = e
 
 -- An act that need not stay is no last store.
 last_store-dropped : (b : ℕ) (a : Act) (h : List Act) → always_stays a ≡ false → last_store b (a ∷ h) ≡ last_store b h
 last_store-dropped b (Stores k w) h free = absurd (true≢false free)
-last_store-dropped b (Flushes t k) h free = refl
-last_store-dropped b (Clflushes k) h free = refl
-last_store-dropped b (Fences t) h free = refl
-last_store-dropped b Asserts h free = refl
+last_store-dropped b a h free = refl
 
 -- A selection has the last stores of the trace at matching places.
 pub last_store-cut : (T : Recording) (K : List ℕ) (b n : ℕ) → IsSelection T K → last_store b (history (cut T K) (matching_place K n)) ≡ last_store b (history T n)
@@ -62,18 +56,12 @@ up_to-same l b (Stores k w) g h f e =
       | true ↦ f
       | false ↦ e
     ]
-up_to-same l b (Flushes t k) g h f e = e
-up_to-same l b (Clflushes k) g h f e = e
-up_to-same l b (Fences t) g h f e = e
-up_to-same l b Asserts g h f e = e
+up_to-same l b a g h f e = e
 
 -- An act that need not stay is not among those up to a last store.
 up_to-dropped : (l b : ℕ) (a : Act) (h : List Act) → always_stays a ≡ false → front l (up_to_last b (a ∷ h)) ≡ front l (up_to_last b h)
 up_to-dropped l b (Stores k w) h free = absurd (true≢false free)
-up_to-dropped l b (Flushes t k) h free = refl
-up_to-dropped l b (Clflushes k) h free = refl
-up_to-dropped l b (Fences t) h free = refl
-up_to-dropped l b Asserts h free = refl
+up_to-dropped l b a h free = refl
 
 -- The front of line l up to the last store that writes the byte at b.
 abbrev front_up_to : ℕ → ℕ → List Act → ℕ
