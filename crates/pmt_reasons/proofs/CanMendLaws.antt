@@ -7,7 +7,7 @@ use Rattle.std.proofs.lemmas.Option.{none-some}
 use Rattle.pmt_model.specs.Values.{Layout, Span, Written, IsAddress, line_of}
 use Rattle.pmt_model.specs.declared.event.Event.{Event}
 use Rattle.pmt_model.specs.declared.event.Op.{Op}
-use Rattle.pmt_model.specs.declared.event.Op.TheVariants.{Store, Clwb, ClflushOpt, Clflush, Sfence, Mfence, IsPersist, IsOrderedBefore}
+use Rattle.pmt_model.specs.declared.event.Op.TheVariants.{Store, Clwb, ClflushOpt, Sfence, IsPersist, IsOrderedBefore}
 use Rattle.pmt_model.specs.Machine.{Act, Stores, Flushes, Asserts}
 use Rattle.pmt_model.specs.Traces.{Recording, IsTrace, IsAct, IsOp, IsEventIn, act, act_of, event, count_at}
 use Rattle.pmt_model.specs.Fronts.{front_at}
@@ -27,9 +27,8 @@ all-at P (d ∷ es) zero e all is = let same : d ≡ e = cc in subst P same all.
 all-at P (d ∷ es) (suc k) e all is = all-at P es k e all.1 is
 
 all-with : (P : Event → Type 0) (p : ℕ) (e : Event) (es : List Event) → P e → AllByRecursion P es → AllByRecursion P (with_at p e es)
-all-with P zero e es one all = (one, all)
-all-with P (suc p) e [] one all = (one, all)
 all-with P (suc p) e (d ∷ es) one all = (all.0, all-with P p e es one all.1)
+all-with P a e b one all = (one, all)
 
 all-without : (P : Event → Type 0) (p : ℕ) (es : List Event) → AllByRecursion P es → AllByRecursion P (without_at p es)
 all-without P p [] all = all
@@ -42,25 +41,14 @@ event-in T (suc i) e is_trace is = all-at (IsEventIn T.format) T.events i e is_t
 
 -- the thread of a flush in a trace
 flusher : (f : Layout) (t u l : ℕ) (op : Op) → act_of f t op ≡ Flushes u l → t ≡ u
-flusher f t u l (Store w) e = absurd (let x : ⊥ = cc in x)
 flusher f t u l (Clwb a) e = cc
 flusher f t u l (ClflushOpt a) e = cc
-flusher f t u l (Clflush a) e = absurd (let x : ⊥ = cc in x)
-flusher f t u l Sfence e = absurd (let x : ⊥ = cc in x)
-flusher f t u l Mfence e = absurd (let x : ⊥ = cc in x)
-flusher f t u l (IsPersist r) e = absurd (let x : ⊥ = cc in x)
-flusher f t u l (IsOrderedBefore r q) e = absurd (let x : ⊥ = cc in x)
+flusher f t u l b e = absurd (let x : ⊥ = cc in x)
 
 -- where a store to a line begins
 store-address : (f : Layout) (t l : ℕ) (w : Written) (op : Op) → act_of f t op ≡ Stores l w → (a : ℕ) × (line_of f a ≡ l) × (IsOp op → IsAddress a)
 store-address f t l w (Store v) e = (v.addr, cc, λ is. is.address)
-store-address f t l w (Clwb a) e = absurd (let x : ⊥ = cc in x)
-store-address f t l w (ClflushOpt a) e = absurd (let x : ⊥ = cc in x)
-store-address f t l w (Clflush a) e = absurd (let x : ⊥ = cc in x)
-store-address f t l w Sfence e = absurd (let x : ⊥ = cc in x)
-store-address f t l w Mfence e = absurd (let x : ⊥ = cc in x)
-store-address f t l w (IsPersist r) e = absurd (let x : ⊥ = cc in x)
-store-address f t l w (IsOrderedBefore r q) e = absurd (let x : ⊥ = cc in x)
+store-address f t l w b e = absurd (let x : ⊥ = cc in x)
 
 abbrev fence-of : ℕ → Event
 fence-of t = record { thread = t; op = Sfence }
@@ -121,8 +109,6 @@ can-flush T x l last w v before store is_last ahead =
     }
 
 can-store : (T : Recording) (x b l : ℕ) (w : Written) (same_line : Bool) → IsAct T x (Stores l w) → 1 ≤ b → b < x → CanBePutIn T (StoreFirst x (Some b) same_line)
-can-store T zero b l w same_line store some early = absurd (omega arith)
-can-store T (suc k) zero l w same_line store some early = absurd (omega arith)
 can-store T (suc k) (suc p) l w true store some early =
     let e = store.0 in
     let few : k < length T.events = event-within T k e store.1 in
@@ -158,6 +144,7 @@ can-store T (suc k) (suc p) l w false store some early =
             (all-without (IsEventIn T.format) k T.events is_trace.each)));
       };
     }
+can-store T a c l w same_line store some early = absurd (omega arith)
 
 -- ---- Where a failure's crash comes
 
@@ -207,14 +194,9 @@ some-none : (f : Failure) → ¬ (Some f ≡ None)
 some-none f e = none-some f (sym e)
 
 op-crashes : (T : Recording) (i : ℕ) (e : Event) (op : Op) (f : Failure) → event T i ≡ Some e → e.op ≡ op → IsFailureOf T i op (Some f) → Crashes T f
-op-crashes T i e (Store v) f at is h = absurd (some-none f h)
-op-crashes T i e (Clwb a) f at is h = absurd (some-none f h)
-op-crashes T i e (ClflushOpt a) f at is h = absurd (some-none f h)
-op-crashes T i e (Clflush a) f at is h = absurd (some-none f h)
-op-crashes T i e Sfence f at is h = absurd (some-none f h)
-op-crashes T i e Mfence f at is h = absurd (some-none f h)
 op-crashes T i e (IsPersist A) f at is h = persist-crashes T i A f (e, at, ap (act_of T.format e.thread) is) h
 op-crashes T i e (IsOrderedBefore A B) f at is h = ordered-crashes T i A B f h
+op-crashes T i e b f at is h = absurd (some-none f h)
 
 crashes : (T : Recording) (i : ℕ) (f : Failure) → IsFailureAt T i (Some f) → Crashes T f
 crashes T i f fails = go (event T i) refl fails

@@ -1,7 +1,7 @@
 -- Each pending store has one cause.
 use Rattle.std.proofs.Common.{◌≡◌, ◌≢◌, ℕ, zero, suc, ◌<◌, ◌≤◌, ◌⊎◌, inl, inr, length, Option, None, Some, refl, sym, ap, subst, subst₂, arith}
 use Rattle.std.proofs.lemmas.Bool.{cases_lt, cases_eq}
-use Rattle.pmt_model.specs.Machine.{Act, Stores, Flushes, Clflushes, Fences, Asserts}
+use Rattle.pmt_model.specs.Machine.{Act, Flushes, Clflushes, Fences}
 use Rattle.pmt_model.specs.Traces.{Recording, IsAct, count_at}
 use Rattle.pmt_model.specs.Fronts.{front_at}
 use Rattle.pmt_model.specs.Findings.{IsFlushOf, ByFlush, ByClflush}
@@ -23,16 +23,13 @@ no_fence T n a is apart t at = apart t (act-unique T n a (Fences t) is at)
 
 -- an event with this act is a flush of the line by the thread, or not
 flush-is : (T : Recording) (t l n : ℕ) (a : Act) → IsAct T n a → IsAct T n (Flushes t l) ⊎ (IsAct T n (Flushes t l) → ⊥)
-flush-is T t l n (Stores k w) is = inr (λ at. let same = act-unique T n (Stores k w) (Flushes t l) is at in cc)
 flush-is T t l n (Flushes u k) is = go (cases_eq u t) (cases_eq k l)
   where
     go : (u ≡ t) ⊎ (u ≡ t → ⊥) → (k ≡ l) ⊎ (k ≡ l → ⊥) → IsAct T n (Flushes t l) ⊎ (IsAct T n (Flushes t l) → ⊥)
     go (inl thread) (inl line) = inl (subst₂ (λ v j. IsAct T n (Flushes v j)) thread line is)
     go (inr apart) line = inr (λ at. let same = act-unique T n (Flushes u k) (Flushes t l) is at in apart (cc))
     go (inl thread) (inr apart) = inr (λ at. let same = act-unique T n (Flushes u k) (Flushes t l) is at in apart (cc))
-flush-is T t l n (Clflushes k) is = inr (λ at. let same = act-unique T n (Clflushes k) (Flushes t l) is at in cc)
-flush-is T t l n (Fences u) is = inr (λ at. let same = act-unique T n (Fences u) (Flushes t l) is at in cc)
-flush-is T t l n Asserts is = inr (λ at. let same = act-unique T n Asserts (Flushes t l) is at in cc)
+flush-is T t l n a is = inr (λ at. let same = act-unique T n a (Flushes t l) is at in cc)
 
 -- the next event is a flush of the line by the thread, or not
 pub flush-dec : (T : Recording) (t l n : ℕ) → IsAct T (suc n) (Flushes t l) ⊎ (IsAct T (suc n) (Flushes t l) → ⊥)
@@ -62,8 +59,6 @@ IsJudged T l n i = (count_at T l i ≤ front_at T l n) ⊎ ((c : Cause) × IsCau
 
 -- one more event of the trace
 judged-act : (T : Recording) (l n i : ℕ) (c : Cause) (a : Act) → IsAct T (suc n) a → i ≤ n → IsCause T l n i c → IsJudged T l (suc n) i
-judged-act T l n i c (Stores k w) is within why =
-    inr (c, cause-other T l n i c (no_flush_of T l (suc n) (Stores k w) is (λ t e. cc) (λ e. cc)) (no_fence T (suc n) (Stores k w) is (λ t e. cc)) within why)
 judged-act T l n i c (Flushes t k) is within why = elim (cases_eq k l) [
   | inl line ↦ inr (with_flush (suc n) t c, cause-flush T l n i t c (subst (λ j. IsAct T (suc n) (Flushes t j)) line is) within why)
   | inr apart ↦ inr (c, cause-other T l n i c (no_flush_of T l (suc n) (Flushes t k) is (λ u e. apart (cc)) (λ e. cc)) (no_fence T (suc n) (Flushes t k) is (λ u e. cc)) within why)
@@ -76,8 +71,8 @@ judged-act T l n i c (Fences t) is within why = elim (flushed-dec T l i n t) [
   | inl x ↦ inl (safe-fence T l (suc n) i t x.0 (suc n) x.3 is x.1 (omega (arith, x.2)) (omega arith))
   | inr none ↦ inr (with_fence (suc n) c, cause-fence T l n i t c is within none why)
 ]
-judged-act T l n i c Asserts is within why =
-    inr (c, cause-other T l n i c (no_flush_of T l (suc n) Asserts is (λ t e. cc) (λ e. cc)) (no_fence T (suc n) Asserts is (λ t e. cc)) within why)
+judged-act T l n i c a is within why =
+    inr (c, cause-other T l n i c (no_flush_of T l (suc n) a is (λ t e. cc) (λ e. cc)) (no_fence T (suc n) a is (λ t e. cc)) within why)
 
 -- no more events
 pub cause-ended : (T : Recording) (l n i : ℕ) (c : Cause) → length T.events ≤ n → i ≤ n → IsCause T l n i c → IsCause T l (suc n) i c
@@ -150,12 +145,11 @@ unfenced-unique T l i n f g t u o p x y =
 
 -- a store has one cause
 pub cause_is_unique : CauseIsUnique
-cause_is_unique T l n i Later Later x y = refl
 cause_is_unique T l n i Later Unflushed x y = absurd (omega (arith, y.0))
 cause_is_unique T l n i Later (Unfenced f t o) x y = absurd (omega (arith, y.0))
 cause_is_unique T l n i Unflushed Later x y = absurd (omega (arith, x.0))
-cause_is_unique T l n i Unflushed Unflushed x y = refl
 cause_is_unique T l n i Unflushed (Unfenced f t o) x y = absurd (x.1 f y.1.after y.1.by_now (ByFlush t y.1.is_flush))
 cause_is_unique T l n i (Unfenced f t o) Later x y = absurd (omega (arith, x.0))
 cause_is_unique T l n i (Unfenced f t o) Unflushed x y = absurd (y.1 f x.1.after x.1.by_now (ByFlush t x.1.is_flush))
 cause_is_unique T l n i (Unfenced f t o) (Unfenced g u p) x y = unfenced-unique T l i n f g t u o p x.1 y.1
+cause_is_unique T l n i a b x y = refl

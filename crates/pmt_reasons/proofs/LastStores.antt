@@ -2,7 +2,7 @@
 use Rattle.std.proofs.Common.{◌≡◌, ℕ, zero, suc, ◌≤◌, ◌⊎◌, inl, inr, Bool, true, false, List, ◌∷◌, length, Option, None, Some, refl, sym, ap, subst, ◌∙◌, arith}
 use Rattle.std.specs.Prelude.{if◌then◌else◌}
 use Rattle.pmt_model.specs.Values.{Written}
-use Rattle.pmt_model.specs.Machine.{Act, Stores, Flushes, Clflushes, Fences, Asserts, writes, count}
+use Rattle.pmt_model.specs.Machine.{Act, Stores, writes, count}
 use Rattle.pmt_model.specs.Traces.{Recording, IsAct, history, count_at}
 use Rattle.pmt_model.specs.Assertions.{last_store, up_to_last}
 use Rattle.pmt_model.specs.Findings.{last_store_number}
@@ -58,10 +58,7 @@ last-store T b n k w is before false other =
 last-act : (T : Recording) (b n : ℕ) (a : Act) → IsAct T (suc n) a → TellsLast T b n (history T n) (last_store_number b (history T n)) →
     TellsLast T b (suc n) (a ∷ history T n) (last_store_number b (a ∷ history T n))
 last-act T b n (Stores k w) is before = last-store T b n k w is before (writes w b) refl
-last-act T b n (Flushes t k) is before = last-later T b n (history T n) (Flushes t k ∷ history T n) (last_store_number b (history T n)) refl refl before
-last-act T b n (Clflushes k) is before = last-later T b n (history T n) (Clflushes k ∷ history T n) (last_store_number b (history T n)) refl refl before
-last-act T b n (Fences t) is before = last-later T b n (history T n) (Fences t ∷ history T n) (last_store_number b (history T n)) refl refl before
-last-act T b n Asserts is before = last-later T b n (history T n) (Asserts ∷ history T n) (last_store_number b (history T n)) refl refl before
+last-act T b n a is before = last-later T b n (history T n) (a ∷ history T n) (last_store_number b (history T n)) refl refl before
 
 -- the number of the last store tells which it is
 pub last-at : (T : Recording) (b n : ℕ) → TellsLast T b n (history T n) (last_store_number b (history T n))
@@ -77,7 +74,3 @@ last-at T b (suc n) = go (history-step T n) (last-at T b n)
 -- the last store, where its number is known
 pub last-found : (T : Recording) (b n x : ℕ) → last_store_number b (history T n) ≡ Some x → IsLastFound T b n (history T n) x
 last-found T b n x is = subst (TellsLast T b n (history T n)) is (last-at T b n)
-
--- no store, where there is no number
-pub last-unfound : (T : Recording) (b n : ℕ) → last_store_number b (history T n) ≡ None → last_store b (history T n) ≡ None
-last-unfound T b n is = subst (TellsLast T b n (history T n)) is (last-at T b n)

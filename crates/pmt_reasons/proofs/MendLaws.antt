@@ -7,7 +7,7 @@ use Rattle.std.proofs.lemmas.Option.{none-some}
 use Rattle.pmt_model.specs.Values.{Span, Written}
 use Rattle.pmt_model.specs.declared.event.Event.{Event}
 use Rattle.pmt_model.specs.declared.event.Op.{Op}
-use Rattle.pmt_model.specs.declared.event.Op.TheVariants.{Store, Clwb, ClflushOpt, Clflush, Sfence, Mfence, IsPersist, IsOrderedBefore}
+use Rattle.pmt_model.specs.declared.event.Op.TheVariants.{IsPersist, IsOrderedBefore}
 use Rattle.pmt_model.specs.Machine.{Act, Stores, Flushes, State, count}
 use Rattle.pmt_model.specs.Traces.{Recording, IsAct, event, history, count_at}
 use Rattle.pmt_model.specs.Fronts.{front, front_at}
@@ -22,7 +22,7 @@ use Rattle.pmt_reasons.specs.declared.failure.Failure.{Failure}
 use Rattle.pmt_reasons.specs.Causes.{IsCause}
 use Rattle.pmt_reasons.specs.Failures.{IsPersistFailure, IsOrderedFailure, IsFailureOf}
 use Rattle.pmt_reasons.specs.declared.mend.Mend.{Mend}
-use Rattle.pmt_reasons.specs.declared.mend.Mend.TheVariants.{Fence, FlushAndFence, StoreFirst}
+use Rattle.pmt_reasons.specs.declared.mend.Mend.TheVariants.{Fence}
 use Rattle.pmt_reasons.specs.Mends.{mend_of, HasEvents, KeepsOrderBut, HasMend, IsFencedBetween, IsFlushedBetween, IsStoredBefore, HasPersisted, IsNeverLost, KeepsInLine, FailureIsMended, LossIsMended}
 use Rattle.pmt_reasons.proofs.CauseLemmas.{rank-above, safe-fence}
 
@@ -109,8 +109,7 @@ stored-first_safe T U new l x b m w store put late =
 -- the events of a trace are there with the mend put in
 has-events : (T U : Recording) (new : ℕ → ℕ) (m : Mend) → HasMend T U new m → HasEvents T U new
 has-events T U new (Fence thread after before) put = put.0
-has-events T U new (FlushAndFence line after before) put = put.0
-has-events T U new (StoreFirst store before same_line) put = put.0
+has-events T U new a put = put.0
 
 -- the store is safe by the event before which the mend is put in, or comes before it on its line
 rescued : (T U : Recording) (new : ℕ → ℕ) (l n x : ℕ) (w : Written) (c : Cause) (same_line : Bool) → IsAct T x (Stores l w) → IsCause T l n x c →
@@ -154,14 +153,9 @@ op-mended : (T U : Recording) (new : ℕ → ℕ) (i l : ℕ) (w : Written) (op 
     IsAct U (new f.lost.store) (Stores l w) → (same_line ≡ true → KeepsInLine T l f.kept) →
     (count_at U l (new f.lost.store) ≤ front_at U l (new f.place)) ⊎ ((same_line ≡ true) × (new f.lost.store < new f.place)) →
     IsNeverLost U (new i) (option_map (λ (y : ByteStore). new y.store) f.kept) (new f.lost.store)
-op-mended T U new i l w (Store v) f same_line h events store in_line way = absurd (some-none f h)
-op-mended T U new i l w (Clwb a) f same_line h events store in_line way = absurd (some-none f h)
-op-mended T U new i l w (ClflushOpt a) f same_line h events store in_line way = absurd (some-none f h)
-op-mended T U new i l w (Clflush a) f same_line h events store in_line way = absurd (some-none f h)
-op-mended T U new i l w Sfence f same_line h events store in_line way = absurd (some-none f h)
-op-mended T U new i l w Mfence f same_line h events store in_line way = absurd (some-none f h)
 op-mended T U new i l w (IsPersist A) f same_line h events store in_line way = persist-mended T U new i l w A f same_line h store in_line way
 op-mended T U new i l w (IsOrderedBefore A B) f same_line h events store in_line way = ordered-mended T U new i l w A B f same_line h events store in_line way
+op-mended T U new i l w b f same_line h events store in_line way = absurd (some-none f h)
 
 event-mended : (T U : Recording) (new : ℕ → ℕ) (i l : ℕ) (w : Written) (o : Option Event) (f : Failure) (same_line : Bool) →
     MatchOption o (Some f ≡ None) (λ (e : Event). IsFailureOf T i e.op (Some f)) → HasEvents T U new →

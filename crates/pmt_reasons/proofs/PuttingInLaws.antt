@@ -14,10 +14,9 @@ use Rattle.pmt_reasons.specs.PuttingIn.{with_at, without_at, put_in, number_afte
 -- ---- Events with one more
 
 with-low : (p j : ℕ) (e : Event) (es : List Event) → j < p → p ≤ length es → slice_get (with_at p e es) j ≡ slice_get es j
-with-low zero j e es low within = absurd (omega arith)
-with-low (suc p) j e [] low within = absurd (omega arith)
 with-low (suc p) zero e (d ∷ es) low within = refl
 with-low (suc p) (suc j) e (d ∷ es) low within = with-low p j e es (omega arith) (omega arith)
+with-low a j e b low within = absurd (omega arith)
 
 with-here : (p : ℕ) (e : Event) (es : List Event) → p ≤ length es → slice_get (with_at p e es) p ≡ Some e
 with-here zero e es within = refl
@@ -25,15 +24,13 @@ with-here (suc p) e [] within = absurd (omega arith)
 with-here (suc p) e (d ∷ es) within = with-here p e es (omega arith)
 
 with-high : (p j : ℕ) (e : Event) (es : List Event) → p ≤ j → slice_get (with_at p e es) (suc j) ≡ slice_get es j
-with-high zero j e es high = refl
 with-high (suc p) zero e es high = absurd (omega arith)
-with-high (suc p) (suc j) e [] high = refl
 with-high (suc p) (suc j) e (d ∷ es) high = with-high p j e es (omega arith)
+with-high a b e c high = refl
 
 pub with-length : (p : ℕ) (e : Event) (es : List Event) → length (with_at p e es) ≡ suc (length es)
-with-length zero e es = refl
-with-length (suc p) e [] = refl
 with-length (suc p) e (d ∷ es) = ap suc (with-length p e es)
+with-length a e b = refl
 
 number-low : (p i : ℕ) → i ≤ p → number_after p i ≡ i
 number-low p i low = grind (arith, nat_tests)

@@ -1,7 +1,7 @@
 -- Of each dropped event a reason holds, and of a kept one none.
 use Rattle.std.proofs.Common.{◌≡◌, ◌≢◌, ℕ, zero, suc, ◌-◌, ◌<◌, ◌≤◌, ◌⊎◌, inl, inr, true, length, refl, sym, ap, subst, ◌∙◌, arith}
 use Rattle.std.proofs.lemmas.Bool.{cases_lt, cases_eq}
-use Rattle.pmt_model.specs.Machine.{Act, Stores, Flushes, Clflushes, Fences, Asserts, count}
+use Rattle.pmt_model.specs.Machine.{Act, Flushes, Clflushes, Fences, count}
 use Rattle.pmt_model.specs.Traces.{Recording, IsAct, history, count_at}
 use Rattle.pmt_model.specs.Fronts.{front, mark, front_at}
 use Rattle.pmt_model.specs.Selections.{always_stays}
@@ -64,8 +64,7 @@ flush-not_needed T t l i (Repeated by) why f =
 flush-not_needed T t l i (Overtaken by) why f =
     let same = next-fence-unique T t i why.fence (suc f.before) why.next (record { is_fence = f.is_fence; later = f.later; none_before = f.next_fence }) in
     absurd (omega (arith, f.needed, why.reached, front-mono T l by f.before (omega (arith, why.before, same))))
-flush-not_needed T t l i Empty why f = why
-flush-not_needed T t l i Useless why f = why
+flush-not_needed T t l i a why f = why
 
 -- a kept event has no reason
 reason-not_kept : (T : Recording) (i : ℕ) (r : Reason) → IsReason T i r → IsKept T i → ⊥
@@ -111,11 +110,8 @@ act-there T (suc n) = elim (history-step T n) [
 
 -- an act is a fence by the thread, or not
 is-fence : (t : ℕ) (a : Act) → (a ≡ Fences t) ⊎ (a ≡ Fences t → ⊥)
-is-fence t (Stores l w) = inr (λ e. cc)
-is-fence t (Flushes u l) = inr (λ e. cc)
-is-fence t (Clflushes l) = inr (λ e. cc)
 is-fence t (Fences u) = elim (cases_eq u t) [ inl same ↦ inl (ap Fences same) | inr apart ↦ inr (λ e. apart (cc)) ]
-is-fence t Asserts = inr (λ e. cc)
+is-fence t a = inr (λ e. cc)
 
 -- an event is a fence by the thread, or not
 fence-dec : (T : Recording) (t n : ℕ) → IsAct T n (Fences t) ⊎ (IsAct T n (Fences t) → ⊥)
@@ -237,8 +233,6 @@ flushed-other T t n no_flush no_fence (inr none) = inr (λ x. elim (cases_lt x.f
 -- one more event
 flushed-act : (T : Recording) (t n : ℕ) (a : Act) → IsAct T n a → FlushedOrNot T t n → FlushedOrNot T t (suc n)
 unfolding FlushedOrNot
-flushed-act T t n (Stores l w) is before =
-    flushed-other T t n (λ k at. let same = act-unique T n (Stores l w) (Flushes t k) is at in cc) (λ at. let same = act-unique T n (Stores l w) (Fences t) is at in cc) before
 flushed-act T t n (Flushes u k) is before = elim (cases_eq u t) [
   | inl same ↦ inl (record {
     flush = n;
@@ -262,8 +256,8 @@ flushed-act T t n (Fences u) is before = elim (cases_eq u t) [
   ])
   | inr apart ↦ flushed-other T t n (λ l at. let same = act-unique T n (Fences u) (Flushes t l) is at in cc) (λ at. let same = act-unique T n (Fences u) (Fences t) is at in apart (cc)) before
 ]
-flushed-act T t n Asserts is before =
-    flushed-other T t n (λ k at. let same = act-unique T n Asserts (Flushes t k) is at in cc) (λ at. let same = act-unique T n Asserts (Fences t) is at in cc) before
+flushed-act T t n a is before =
+    flushed-other T t n (λ k at. let same = act-unique T n a (Flushes t k) is at in cc) (λ at. let same = act-unique T n a (Fences t) is at in cc) before
 
 -- at each place it is known
 has_flushed-dec : (T : Recording) (t j : ℕ) → FlushedOrNot T t j
@@ -296,14 +290,13 @@ clflush-safe T l (suc n) is dropped = elim (cases_eq (front_at T l (suc n)) (fro
 -- a dropped event has a reason
 dropped-reason : (T : Recording) (i : ℕ) (a : Act) → IsAct T i a → (IsKept T i → ⊥) → (r : Reason) × IsReason T i r
 unfolding FlushedOrNot
-dropped-reason T i (Stores l w) is dropped = absurd (dropped (Stays (Stores l w) is refl))
 dropped-reason T i (Flushes t l) is dropped = flush-reason T t l i is dropped
 dropped-reason T i (Clflushes l) is dropped = (Safe, OfClflush l is (clflush-safe T l i is dropped))
 dropped-reason T i (Fences t) is dropped = elim (has_flushed-dec T t i) [
   | inl flushed ↦ (Useless, OfFence t is (record { flushed = flushed; raises_none = fence-raises_none T t i is dropped }))
   | inr none ↦ (Empty, OfFence t is none)
 ]
-dropped-reason T i Asserts is dropped = absurd (dropped (Stays Asserts is refl))
+dropped-reason T i a is dropped = absurd (dropped (Stays a is refl))
 
 -- an event is dropped exactly where a reason holds of it
 pub reason_exists : ReasonExists

@@ -59,32 +59,18 @@ flush-reason-unique T t l i (Overtaken a) (Repeated b) x y = absurd (not-both T 
 flush-reason-unique T t l i (Overtaken a) (Overtaken b) x y = overtaken-unique T t l i a b x y
 flush-reason-unique T t l i Empty s x y = absurd x
 flush-reason-unique T t l i Useless s x y = absurd x
-flush-reason-unique T t l i Safe Empty x y = absurd y
-flush-reason-unique T t l i Unfenced Empty x y = absurd y
-flush-reason-unique T t l i (Repeated a) Empty x y = absurd y
-flush-reason-unique T t l i (Overtaken a) Empty x y = absurd y
-flush-reason-unique T t l i Safe Useless x y = absurd y
-flush-reason-unique T t l i Unfenced Useless x y = absurd y
-flush-reason-unique T t l i (Repeated a) Useless x y = absurd y
-flush-reason-unique T t l i (Overtaken a) Useless x y = absurd y
+flush-reason-unique T t l i c d x y = absurd y
 
 -- a clflush has one reason
 pub clflush-reason-safe : (T : Recording) (l i : ℕ) (r : Reason) → IsClflushReason T l i r → r ≡ Safe
 clflush-reason-safe T l i Safe x = refl
-clflush-reason-safe T l i Unfenced x = absurd x
-clflush-reason-safe T l i (Repeated b) x = absurd x
-clflush-reason-safe T l i (Overtaken b) x = absurd x
-clflush-reason-safe T l i Empty x = absurd x
-clflush-reason-safe T l i Useless x = absurd x
+clflush-reason-safe T l i a x = absurd x
 
 -- the two reasons of a fence
 pub fence-reasons : (T : Recording) (t j : ℕ) (r : Reason) → IsFenceReason T t j r → ((r ≡ Empty) × (HasFlushed T t j → ⊥)) ⊎ ((r ≡ Useless) × IsUseless T t j)
-fence-reasons T t j Safe x = absurd x
-fence-reasons T t j Unfenced x = absurd x
-fence-reasons T t j (Repeated b) x = absurd x
-fence-reasons T t j (Overtaken b) x = absurd x
 fence-reasons T t j Empty x = inl (refl, x)
 fence-reasons T t j Useless x = inr (refl, x)
+fence-reasons T t j a x = absurd x
 
 -- a fence has one reason
 fence-reason-unique : (T : Recording) (t j : ℕ) (r s : Reason) → IsFenceReason T t j r → IsFenceReason T t j s → r ≡ s

@@ -7,10 +7,10 @@ use Rattle.std.proofs.Math.ListN.{length-set, replicate}
 use Rattle.std.proofs.lemmas.List.{length-replicate, get_or-replicate}
 use Rattle.std.proofs.lemmas.Bool.{cases_lt, cases_eq, false≢true}
 use Rattle.pmt_model.specs.declared.event.Event.{Event}
-use Rattle.pmt_model.specs.Machine.{Act, Stores, Flushes, Clflushes, Fences, Asserts}
+use Rattle.pmt_model.specs.Machine.{Act, Flushes, Clflushes, Fences}
 use Rattle.pmt_model.specs.Values.{Layout}
 use Rattle.pmt_model.specs.declared.event.Op.{Op}
-use Rattle.pmt_model.specs.declared.event.Op.TheVariants.{Store, Clwb, ClflushOpt, Clflush, Sfence, Mfence, IsPersist, IsOrderedBefore}
+use Rattle.pmt_model.specs.declared.event.Op.TheVariants.{Clwb, ClflushOpt, Sfence, Mfence}
 use Rattle.pmt_model.specs.Traces.{Recording, IsTrace, IsEventIn, IsAct, act_of, act, count_at}
 use Rattle.pmt_model.specs.Fronts.{front_at}
 use Rattle.pmt_laws.proofs.Histories.{act-unique}
@@ -119,20 +119,17 @@ scan-fence T l i n t flushed c is fits within s false unmarked = record {
 
 -- the thread of an act, if it is a flush or fence
 abbrev pub IsThreadFit : Act → Type 0
-IsThreadFit (Stores l w) = Unit {0}
 IsThreadFit (Flushes t l) = t < 256
-IsThreadFit (Clflushes l) = Unit {0}
 IsThreadFit (Fences t) = t < 256
-IsThreadFit Asserts = Unit {0}
+IsThreadFit a = Unit {0}
 
 -- one more event of the trace
 pub scan-act : (T : Recording) (l i n : ℕ) (a : Act) (flushed : List Bool) (c : Cause) → IsAct T (suc n) a → IsThreadFit a → i ≤ n → IsScanned T l i n flushed c →
     IsScannedTo T l i (suc n) (flushed_after l a flushed) (cause_after l (suc n) a flushed c)
-scan-act T l i n (Stores k w) flushed c is fits within s = scan-other T l i n (Stores k w) flushed c is (λ t e. cc) (λ e. cc) (λ t e. cc) within s
 scan-act T l i n (Flushes t k) flushed c is fits within s = scan-flush T l i n t k flushed c is fits within s (k == l) refl
 scan-act T l i n (Clflushes k) flushed c is fits within s = scan-clflush T l i n k flushed c is within s (k == l) refl
 scan-act T l i n (Fences t) flushed c is fits within s = scan-fence T l i n t flushed c is fits within s (get_or flushed t false) refl
-scan-act T l i n Asserts flushed c is fits within s = scan-other T l i n Asserts flushed c is (λ t e. cc) (λ e. cc) (λ t e. cc) within s
+scan-act T l i n a flushed c is fits within s = scan-other T l i n a flushed c is (λ t e. cc) (λ e. cc) (λ t e. cc) within s
 
 -- a cause stays past the end of the trace
 pub cause-past : (T : Recording) (l i n m : ℕ) (c : Cause) → length T.events ≤ n → i ≤ n → n ≤ m → IsCause T l n i c → IsCause T l m i c
@@ -156,14 +153,11 @@ scan-start T l i flushed start = record {
 
 -- the thread of an event is below 256
 pub thread-fits : (f : Layout) (t : ℕ) (op : Op) → t < 256 → IsThreadFit (act_of f t op)
-thread-fits f t (Store w) h = tt
 thread-fits f t (Clwb a) h = h
 thread-fits f t (ClflushOpt a) h = h
-thread-fits f t (Clflush a) h = tt
 thread-fits f t Sfence h = h
 thread-fits f t Mfence h = h
-thread-fits f t (IsPersist r) h = tt
-thread-fits f t (IsOrderedBefore r q) h = tt
+thread-fits f t b h = tt
 
 -- what holds of each event of a list holds of the one at an index
 pub each-at : (f : Layout) (es : List Event) (n : ℕ) (e : Event) → AllByRecursion (IsEventIn f) es → slice_get es n ≡ Some e → IsEventIn f e
