@@ -2,7 +2,7 @@
 use Rattle.std.proofs.Common.{◌≡◌, ℕ, zero, suc, ◌-◌, ◌<◌, ◌≤◌, inl, inr, Bool, true, false, ◌==◌, ◌&&◌, ◌∷◌, max, refl, sym, ap, subst, ◌∙◌, true≢false, eqb-true, eq-eqb, arith}
 use Rattle.std.specs.Prelude.{◌||◌, not, ◌↔◌}
 use Rattle.std.proofs.lemmas.Bool.{cases_lt}
-use Rattle.pmt_model.specs.Machine.{Act, Stores, Flushes, Clflushes, Fences, Asserts, count}
+use Rattle.pmt_model.specs.Machine.{Act, Flushes, Fences, count}
 use Rattle.pmt_model.specs.Traces.{Recording, IsAct, history, count_at}
 use Rattle.pmt_model.specs.Fronts.{front, front_at}
 use Rattle.pmt_model.specs.Findings.{IsEmptyFence}
@@ -133,13 +133,11 @@ open-tells T t (suc n) = elim (history-step T n) [
         open-other T t n (has_open_flush t (history T n)) (λ l flush. no_flush l (act-unique T (suc n) a (Flushes t l) is flush)) (λ fence. no_fence (act-unique T (suc n) a (Fences t) is fence)) old
 
     go : (a : Act) → IsAct T (suc n) a → OpenTells T t n (has_open_flush t (history T n)) → OpenTells T t (suc n) (has_open_flush t (a ∷ history T n))
-    go (Stores k w) is old = other (Stores k w) is (λ l e. cc) (λ e. cc) old
     go (Flushes u k) is old = at (u == t) refl
       where
         at : (b : Bool) → (u == t) ≡ b → OpenTells T t (suc n) (b || has_open_flush t (history T n))
         at true e = (suc n, k, omega arith, subst (λ v. IsAct T (suc n) (Flushes v k)) (eqb-true u t e) is, λ m after by_now fence. omega arith)
         at false e = other (Flushes u k) is (λ l same. let thread : u ≡ t = cc in true≢false (sym (eq-eqb u t thread) ∙ e)) (λ same. cc) old
-    go (Clflushes k) is old = other (Clflushes k) is (λ l e. cc) (λ e. cc) old
     go (Fences u) is old = at (u == t) refl
       where
         at : (b : Bool) → (u == t) ≡ b → OpenTells T t (suc n) (not b && has_open_flush t (history T n))
@@ -151,7 +149,7 @@ open-tells T t (suc n) = elim (history-step T n) [
           | inr early ↦ (suc n, omega arith, omega arith, subst (λ v. IsAct T (suc n) (Fences v)) (eqb-true u t e) is)
         ]
         at false e = other (Fences u) is (λ l same. cc) (λ same. let thread : u ≡ t = cc in true≢false (sym (eq-eqb u t thread) ∙ e)) old
-    go Asserts is old = other Asserts is (λ l e. cc) (λ e. cc) old
+    go a is old = other a is (λ l e. cc) (λ e. cc) old
 
 pub empty_fence_by_flag : EmptyFenceByFlag
 empty_fence_by_flag T t n fence = (λ it. there it (has_open_flush t (history T n)) (open-tells T t n), λ none. back (subst (OpenTells T t n) none (open-tells T t n)))

@@ -2,7 +2,7 @@
 use Rattle.std.proofs.Common.{◌≡◌, ℕ, suc, ◌-◌, ◌<◌, ◌≤◌, ◌⊎◌, inl, inr, Bool, true, false, ◌==◌, ◌&&◌, List, [], ◌∷◌, length, max, unwrap_or, Some, None, refl, ap, eq-eqb, arith}
 use Rattle.std.specs.Prelude.{if◌then◌else◌, ◌||◌, not, ◌↔◌}
 use Rattle.std.proofs.lemmas.Bool.{cases_lt, cases_eq, ne_eqb}
-use Rattle.pmt_model.specs.Machine.{Act, Stores, Flushes, Clflushes, Fences, Asserts, count}
+use Rattle.pmt_model.specs.Machine.{Act, Stores, Flushes, Clflushes, Fences, count}
 use Rattle.pmt_model.specs.Traces.{Recording, history, count_at}
 use Rattle.pmt_model.specs.Fronts.{front, front_at, mark, open_mark}
 use Rattle.pmt_model.specs.Findings.{IsRedundantFlush, IsRedundantClflush}
@@ -42,9 +42,7 @@ flushed-marks t l (Flushes u k ∷ h) had = go ((u == t) && (k == l)) (flushed-m
     go : (b : Bool) → (has_flushed t l h ≡ true → count l h ≤ mark t l h) → (b || has_flushed t l h) ≡ true → count l h ≤ (if b then count l h else mark t l h)
     go true before had = omega arith
     go false before had = before had
-flushed-marks t l (Clflushes k ∷ h) had = flushed-marks t l h had
-flushed-marks t l (Fences u ∷ h) had = flushed-marks t l h had
-flushed-marks t l (Asserts ∷ h) had = flushed-marks t l h had
+flushed-marks t l (a ∷ h) had = flushed-marks t l h had
 
 -- and one that marks all of them, where there is one, has flushed it since
 marks-flushed : (t l : ℕ) (h : List Act) → 0 < count l h → count l h ≤ mark t l h → has_flushed t l h ≡ true
@@ -60,14 +58,11 @@ marks-flushed t l (Flushes u k ∷ h) some all = go ((u == t) && (k == l)) (mark
     go : (b : Bool) → (0 < count l h → count l h ≤ mark t l h → has_flushed t l h ≡ true) → 0 < count l h → count l h ≤ (if b then count l h else mark t l h) → (b || has_flushed t l h) ≡ true
     go true before some all = refl
     go false before some all = before some all
-marks-flushed t l (Clflushes k ∷ h) some all = marks-flushed t l h some all
-marks-flushed t l (Fences u ∷ h) some all = marks-flushed t l h some all
-marks-flushed t l (Asserts ∷ h) some all = marks-flushed t l h some all
+marks-flushed t l (a ∷ h) some all = marks-flushed t l h some all
 
 -- an open mark is the thread's, and one that is no more open is in the front
 open-marked : (t l : ℕ) (h : List Act) → (unwrap_or (open_mark t l h) 0 ≤ mark t l h) × (mark t l h ≤ max (front l h) (unwrap_or (open_mark t l h) 0))
 open-marked t l [] = (omega arith, omega arith)
-open-marked t l (Stores k w ∷ h) = open-marked t l h
 open-marked t l (Flushes u k ∷ h) = go ((u == t) && (k == l)) (open-marked t l h)
   where
     go : (b : Bool) → (unwrap_or (open_mark t l h) 0 ≤ mark t l h) × (mark t l h ≤ max (front l h) (unwrap_or (open_mark t l h) 0)) →
@@ -81,7 +76,7 @@ open-marked t l (Fences u ∷ h) = go (cases_eq u t) (open-marked t l h)
         (unwrap_or (if u == t then None else open_mark t l h) 0 ≤ mark t l h) × (mark t l h ≤ max (max (front l h) (mark u l h)) (unwrap_or (if u == t then None else open_mark t l h) 0))
     go (inl same) before = let e = eq-eqb u t same in let own = ap (λ v. mark v l h) same in rw e (omega arith, omega (arith, own))
     go (inr other) before = let e = ne_eqb u t other in rw e (before.0, omega (arith, before.1))
-open-marked t l (Asserts ∷ h) = open-marked t l h
+open-marked t l (a ∷ h) = open-marked t l h
 
 -- the front or the open mark counts all stores exactly where the front does, or the thread has flushed the line since the last one
 covered : (t l : ℕ) (h : List Act) → (count l h ≤ max (front l h) (unwrap_or (open_mark t l h) 0)) ↔ ((count l h ≤ front l h) ⊎ (has_flushed t l h ≡ true))

@@ -24,9 +24,8 @@ record IsNumbered (T : Recording) (x : Placed) (j : ℕ) (g : List Act) : Type 0
 -- There is such a store with its number, or neither.
 abbrev Numbers : Recording → List Act → Option Placed → Option ℕ → Type 0
 Numbers T g None None = Unit {0}
-Numbers T g None (Some j) = ⊥
-Numbers T g (Some x) None = ⊥
 Numbers T g (Some x) (Some j) = IsNumbered T x j g
+Numbers T g a b = ⊥
 
 abbrev NumbersLast : Recording → ℕ → List Act → Type 0
 NumbersLast T b h = Numbers T (up_to_last b h) (last_store b h) (last_store_number b h)
