@@ -14,11 +14,11 @@ use Rattle.pmt_model.specs.Assertions.{PersistPasses}
 use Rattle.pmt_model.specs.Analyses.{IsFinding, HasFinding, IsFindings, IsVerdictOf, OfPersist, OfOrdered, HasVerdict, IsVerdicts}
 use Rattle.pmt_laws.specs.Worked.{store, clwb, sfence, byte_at, is_persist}
 use Rattle.pmt_laws.specs.WorkedFindings.{every_finding, EveryFinding}
-use Rattle.pmt_laws.proofs.Histories.{act-within, act-unique}
 use Rattle.pmt_laws.proofs.NeverLemmas.{never_persisted_by_fronts}
 use Rattle.pmt_laws.proofs.RedundantLemmas.{redundant_flush_by_fronts}
 use Rattle.pmt_laws.proofs.OverwrittenLemmas.{overwritten_by_numbers}
 use Rattle.pmt_laws.proofs.ByteAssertions.{keeps, passes-covered}
+use Rattle.pmt_laws.proofs.KeptTest.{act_at, there-act}
 
 abbrev first : Written
 first = record { addr = 0x1000; bytes = 1 ∷ [] }
@@ -31,92 +31,36 @@ second = record { addr = 0x1000; bytes = 2 ∷ [] }
 abbrev ActIs : ℕ → Act → Type 0
 ActIs i a = IsAct every_finding i a
 
-is1 : ActIs 1 (Stores 64 first)
-is1 = (store 0 0x1000 1, refl, refl)
+abbrev Numbered : ℕ → Act → Type 0
+Numbered i a =
+    ((i ≡ 1) × (a ≡ Stores 64 first)) ⊎ (((i ≡ 2) × (a ≡ Stores 64 second)) ⊎ (((i ≡ 3) × (a ≡ Flushes 0 64)) ⊎ (((i ≡ 4) × (a ≡ Flushes 0 64)) ⊎ (((i ≡ 5) × (a ≡ Fences 1)) ⊎ ((i ≡ 6) × (a ≡ Asserts))))))
 
-is2 : ActIs 2 (Stores 64 second)
-is2 = (store 0 0x1000 2, refl, refl)
-
-is3 : ActIs 3 (Flushes 0 64)
-is3 = (clwb 0 0x1000, refl, refl)
-
-is4 : ActIs 4 (Flushes 0 64)
-is4 = (clwb 0 0x1000, refl, refl)
-
-is5 : ActIs 5 (Fences 1)
-is5 = (sfence 1, refl, refl)
-
-is6 : ActIs 6 Asserts
-is6 = (is_persist 0x1000, refl, refl)
-
--- What each of the numbers 1 to 6 has, each event has.
-each_number : (P : ℕ → Type 0) → P 1 → P 2 → P 3 → P 4 → P 5 → P 6 → (i : ℕ) (a : Act) → ActIs i a → P i
-each_number P p1 p2 p3 p4 p5 p6 i a is = go i (act-within every_finding i a is).0 (act-within every_finding i a is).1
+numbered : (i : ℕ) (a : Act) → ActIs i a → Numbered i a
+numbered i a is = go i (there-act every_finding i a is)
   where
-    go : (i : ℕ) → 1 ≤ i → i ≤ 6 → P i
-    go zero low high = absurd (omega arith)
-    go (suc zero) low high = p1
-    go (suc (suc zero)) low high = p2
-    go (suc (suc (suc zero))) low high = p3
-    go (suc (suc (suc (suc zero)))) low high = p4
-    go (suc (suc (suc (suc (suc zero))))) low high = p5
-    go (suc (suc (suc (suc (suc (suc zero)))))) low high = p6
-    go (suc (suc (suc (suc (suc (suc (suc i))))))) low high = absurd (omega arith)
+    go : (i : ℕ) → act_at every_finding i ≡ Some a → Numbered i a
+    go (suc zero) e = inl (refl, (cc))
+    go (suc (suc zero)) e = inr (inl (refl, (cc)))
+    go (suc (suc (suc zero))) e = inr (inr (inl (refl, (cc))))
+    go (suc (suc (suc (suc zero)))) e = inr (inr (inr (inl (refl, (cc)))))
+    go (suc (suc (suc (suc (suc zero))))) e = inr (inr (inr (inr (inl (refl, (cc))))))
+    go (suc (suc (suc (suc (suc (suc zero)))))) e = inr (inr (inr (inr (inr (refl, (cc))))))
+    go i e = cc
 
--- Its stores.
 stores : (i l : ℕ) (w : Written) → ActIs i (Stores l w) → ((i ≡ 1) ⊎ (i ≡ 2)) × (l ≡ 64)
-stores i l w is =
-    each_number (λ k. ActIs k (Stores l w) → ((k ≡ 1) ⊎ (k ≡ 2)) × (l ≡ 64))
-    (λ at. let e : Stores l w ≡ Stores 64 first = act-unique every_finding 1 (Stores l w) (Stores 64 first) at is1 in (inl refl, (cc)))
-    (λ at. let e : Stores l w ≡ Stores 64 second = act-unique every_finding 2 (Stores l w) (Stores 64 second) at is2 in (inr refl, (cc)))
-    (λ at. let e : Stores l w ≡ Flushes 0 64 = act-unique every_finding 3 (Stores l w) (Flushes 0 64) at is3 in cc)
-    (λ at. let e : Stores l w ≡ Flushes 0 64 = act-unique every_finding 4 (Stores l w) (Flushes 0 64) at is4 in cc)
-    (λ at. let e : Stores l w ≡ Fences 1 = act-unique every_finding 5 (Stores l w) (Fences 1) at is5 in cc)
-    (λ at. let e : Stores l w ≡ Asserts = act-unique every_finding 6 (Stores l w) Asserts at is6 in cc) i (Stores l w) is is
+stores i l w is = grind (arith, numbered i (Stores l w) is)
 
--- Its flushes.
 flushes : (i t l : ℕ) → ActIs i (Flushes t l) → ((i ≡ 3) ⊎ (i ≡ 4)) × (t ≡ 0) × (l ≡ 64)
-flushes i t l is =
-    each_number (λ k. ActIs k (Flushes t l) → ((k ≡ 3) ⊎ (k ≡ 4)) × (t ≡ 0) × (l ≡ 64))
-    (λ at. let e : Flushes t l ≡ Stores 64 first = act-unique every_finding 1 (Flushes t l) (Stores 64 first) at is1 in cc)
-    (λ at. let e : Flushes t l ≡ Stores 64 second = act-unique every_finding 2 (Flushes t l) (Stores 64 second) at is2 in cc)
-    (λ at. let e : Flushes t l ≡ Flushes 0 64 = act-unique every_finding 3 (Flushes t l) (Flushes 0 64) at is3 in (inl refl, (cc), (cc)))
-    (λ at. let e : Flushes t l ≡ Flushes 0 64 = act-unique every_finding 4 (Flushes t l) (Flushes 0 64) at is4 in (inr refl, (cc), (cc)))
-    (λ at. let e : Flushes t l ≡ Fences 1 = act-unique every_finding 5 (Flushes t l) (Fences 1) at is5 in cc)
-    (λ at. let e : Flushes t l ≡ Asserts = act-unique every_finding 6 (Flushes t l) Asserts at is6 in cc) i (Flushes t l) is is
+flushes i t l is = grind (arith, numbered i (Flushes t l) is)
 
--- It has no clflush.
 no_clflush : (i l : ℕ) → ActIs i (Clflushes l) → ⊥
-no_clflush i l is =
-    each_number (λ k. ActIs k (Clflushes l) → ⊥)
-    (λ at. let e : Clflushes l ≡ Stores 64 first = act-unique every_finding 1 (Clflushes l) (Stores 64 first) at is1 in cc)
-    (λ at. let e : Clflushes l ≡ Stores 64 second = act-unique every_finding 2 (Clflushes l) (Stores 64 second) at is2 in cc)
-    (λ at. let e : Clflushes l ≡ Flushes 0 64 = act-unique every_finding 3 (Clflushes l) (Flushes 0 64) at is3 in cc)
-    (λ at. let e : Clflushes l ≡ Flushes 0 64 = act-unique every_finding 4 (Clflushes l) (Flushes 0 64) at is4 in cc)
-    (λ at. let e : Clflushes l ≡ Fences 1 = act-unique every_finding 5 (Clflushes l) (Fences 1) at is5 in cc)
-    (λ at. let e : Clflushes l ≡ Asserts = act-unique every_finding 6 (Clflushes l) Asserts at is6 in cc) i (Clflushes l) is is
+no_clflush i l is = grind (arith, numbered i (Clflushes l) is)
 
--- Its fence.
 fence : (i t : ℕ) → ActIs i (Fences t) → i ≡ 5
-fence i t is =
-    each_number (λ k. ActIs k (Fences t) → k ≡ 5)
-    (λ at. let e : Fences t ≡ Stores 64 first = act-unique every_finding 1 (Fences t) (Stores 64 first) at is1 in cc)
-    (λ at. let e : Fences t ≡ Stores 64 second = act-unique every_finding 2 (Fences t) (Stores 64 second) at is2 in cc)
-    (λ at. let e : Fences t ≡ Flushes 0 64 = act-unique every_finding 3 (Fences t) (Flushes 0 64) at is3 in cc)
-    (λ at. let e : Fences t ≡ Flushes 0 64 = act-unique every_finding 4 (Fences t) (Flushes 0 64) at is4 in cc)
-    (λ at. refl)
-    (λ at. let e : Fences t ≡ Asserts = act-unique every_finding 6 (Fences t) Asserts at is6 in cc) i (Fences t) is is
+fence i t is = grind (arith, numbered i (Fences t) is)
 
--- Its assertion.
 assertion : (i : ℕ) → ActIs i Asserts → i ≡ 6
-assertion i is =
-    each_number (λ k. ActIs k Asserts → k ≡ 6)
-    (λ at. let e : Asserts ≡ Stores 64 first = act-unique every_finding 1 Asserts (Stores 64 first) at is1 in cc)
-    (λ at. let e : Asserts ≡ Stores 64 second = act-unique every_finding 2 Asserts (Stores 64 second) at is2 in cc)
-    (λ at. let e : Asserts ≡ Flushes 0 64 = act-unique every_finding 3 Asserts (Flushes 0 64) at is3 in cc)
-    (λ at. let e : Asserts ≡ Flushes 0 64 = act-unique every_finding 4 Asserts (Flushes 0 64) at is4 in cc)
-    (λ at. let e : Asserts ≡ Fences 1 = act-unique every_finding 5 Asserts (Fences 1) at is5 in cc)
-    (λ at. refl) i Asserts is is
+assertion i is = grind (arith, numbered i Asserts is)
 
 -- ---- The findings
 
@@ -125,33 +69,33 @@ listed = NeverPersisted 1 true ∷ Overwritten 1 2 ∷ NeverPersisted 2 true ∷
 
 -- A flush comes after both stores.
 flushed_after : (i : ℕ) → i < 3 → IsFlushedAfter every_finding 64 i
-flushed_after i before = (3, before, ByFlush 0 is3)
+flushed_after i before = (3, before, ByFlush 0 (clwb 0 0x1000, refl, refl))
 
 first_lost : IsFinding every_finding (NeverPersisted 1 true)
-first_lost = (64, (never_persisted_by_fronts every_finding 64 1 first is1).1 (lit< tt), (λ _. flushed_after 1 (lit< tt), λ _. refl))
+first_lost = (64, (never_persisted_by_fronts every_finding 64 1 first (store 0 0x1000 1, refl, refl)).1 (lit< tt), (λ _. flushed_after 1 (lit< tt), λ _. refl))
 
 second_lost : IsFinding every_finding (NeverPersisted 2 true)
-second_lost = (64, (never_persisted_by_fronts every_finding 64 2 second is2).1 (lit< tt), (λ _. flushed_after 2 (lit< tt), λ _. refl))
+second_lost = (64, (never_persisted_by_fronts every_finding 64 2 second (store 0 0x1000 2, refl, refl)).1 (lit< tt), (λ _. flushed_after 2 (lit< tt), λ _. refl))
 
 first_overwritten : IsFinding every_finding (Overwritten 1 2)
 first_overwritten =
     (overwritten_by_numbers every_finding 1 2).1
-    (64, first, second, 0x1000, record { is_earlier = is1; is_later = is2; writes_later = refl; last = refl; unflushed = lit< tt })
+    (64, first, second, 0x1000, record { is_earlier = (store 0 0x1000 1, refl, refl); is_later = (store 0 0x1000 2, refl, refl); writes_later = refl; last = refl; unflushed = lit< tt })
 
 second_flush : IsFinding every_finding (RedundantFlush 4)
-second_flush = inl (0, 64, (redundant_flush_by_fronts every_finding 0 64 4 is4).1 (lit≤ tt))
+second_flush = inl (0, 64, (redundant_flush_by_fronts every_finding 0 64 4 (clwb 0 0x1000, refl, refl)).1 (lit≤ tt))
 
 -- Thread 1 flushes nothing.
 empty_fence : IsFinding every_finding (FenceWithoutFlush 5)
 empty_fence = record {
   thread = 1;
-  is_fence = is5;
+  is_fence = (sfence 1, refl, refl);
   nothing = λ j l before is. absurd (let zero_is : ◌≡◌ {A = ℕ} 1 0 = (flushes j 1 l is).1 in omega arith);
 }
 
 -- The first flush has stores to mark.
 first_flush : IsRedundantFlush every_finding 0 64 3 → ⊥
-first_flush redundant = let above : 2 ≤ 0 = (redundant_flush_by_fronts every_finding 0 64 3 is3).0 redundant in omega arith
+first_flush redundant = let above : 2 ≤ 0 = (redundant_flush_by_fronts every_finding 0 64 3 (clwb 0 0x1000, refl, refl)).0 redundant in omega arith
 
 listed_is : (f : Finding) → HasFinding listed f → IsFinding every_finding f
 listed_is f (inl e) = subst (IsFinding every_finding) e first_lost

@@ -1,12 +1,9 @@
 -- What the definitions say of the worked traces with findings, of the order within a line, and of lines of other sizes.
-use Rattle.std.proofs.Common.{◌≡◌, ℕ, ◌<◌, ◌≤◌, ◌⊎◌, [], ◌∷◌, ◌-◌, true, inl, inr, refl, sym, subst, lit<, lit≤, arith}
-use Rattle.std.specs.Prelude.{nat_lt, nat_le}
-use Rattle.std.proofs.lemmas.Bool.{and_parts, leb-true, ltb-true}
-use Rattle.pmt_model.specs.Machine.{Stores, Flushes, Clflushes, writes}
-use Rattle.pmt_model.specs.declared.finding.Finding.TheVariants.{RedundantFlush, Overwritten}
+use Rattle.std.proofs.Common.{◌≡◌, ℕ, ◌≤◌, ◌⊎◌, [], ◌∷◌, true, inl, inr, refl, subst, lit<, lit≤, arith}
+use Rattle.pmt_model.specs.Machine.{Stores, writes}
+use Rattle.pmt_model.specs.declared.finding.Finding.TheVariants.{Overwritten}
 use Rattle.pmt_model.specs.Values.{Written}
 use Rattle.pmt_model.specs.Traces.{history}
-use Rattle.pmt_model.specs.Findings.{IsRedundantFlush, IsRedundantClflush}
 use Rattle.pmt_model.specs.Analyses.{IsFinding}
 use Rattle.pmt_laws.specs.Worked.{store, clwb, clflush}
 use Rattle.pmt_laws.specs.WorkedFindings.{double_flush, DoubleFlush, overwritten_before_flush, OverwrittenBeforeFlush, order_within_a_line, OrderWithinALine, flushed_further_on, WideLine, NarrowLine, clflush_twice, ClflushTwice}
@@ -14,38 +11,20 @@ use Rattle.pmt_laws.proofs.Histories.{act-unique}
 use Rattle.pmt_laws.proofs.RedundantLemmas.{redundant_flush_by_fronts, redundant_clflush_by_fronts}
 use Rattle.pmt_laws.proofs.OverwrittenLemmas.{overwritten_by_numbers}
 use Rattle.pmt_laws.proofs.ByteAssertions.{keeps, covered-passes, passes-covered, no_later-passes, passes-no_later}
-
--- The first flush has a store to mark.
-first_is_needed : IsFinding double_flush (RedundantFlush 2) → ⊥
-first_is_needed (inl (t, l, redundant)) =
-    let e : Flushes t l ≡ Flushes 0 64 = act-unique double_flush 2 (Flushes t l) (Flushes 0 64) redundant.is_flush (clwb 0 0x1000, refl, refl) in
-    go t l (cc) (cc) redundant
-  where
-    go : (t l : ℕ) → 0 ≡ t → 64 ≡ l → IsRedundantFlush double_flush t l 2 → ⊥
-    go t l e d redundant =
-        let P : ℕ → Type 0 = λ u. IsRedundantFlush double_flush u l 2 in
-        let Q : ℕ → Type 0 = λ k. IsRedundantFlush double_flush 0 k 2 in
-        let exact : IsRedundantFlush double_flush 0 64 2 = subst Q (sym d) (subst P (sym e) redundant) in
-        let above : 1 ≤ 0 = (redundant_flush_by_fronts double_flush 0 64 2 (clwb 0 0x1000, refl, refl)).0 exact in
-        omega arith
-first_is_needed (inr (l, redundant)) =
-    let e : Clflushes l ≡ Flushes 0 64 = act-unique double_flush 2 (Clflushes l) (Flushes 0 64) redundant.is_clflush (clwb 0 0x1000, refl, refl) in cc
+use Rattle.std.proofs.lemmas.Bool.Decides.{nat_tests}
+use Rattle.pmt_laws.proofs.WorkedLemmas.{unredundant_flush, unredundant_clflush}
 
 -- The first flush marks the store, and the second one alone is kept.
 pub double_flush_says : DoubleFlush
 double_flush_says = record {
   second_is_redundant = inl (0, 64, (redundant_flush_by_fronts double_flush 0 64 3 (clwb 0 0x1000, refl, refl)).1 (lit≤ tt));
-  first_is_not = first_is_needed;
+  first_is_not = unredundant_flush double_flush 0 64 2 (clwb 0 0x1000, refl, refl) (λ above. omega arith);
   kept = keeps double_flush (1 ∷ 3 ∷ 4 ∷ []) refl;
 }
 
 -- A store of one byte writes at its address alone.
 writes-one : (a value byte : ℕ) → writes (record { addr = a; bytes = value ∷ [] }) byte ≡ true → byte ≡ a
-writes-one a value byte e =
-    let parts = and_parts (nat_le a byte) (nat_lt (byte - a) 1) e in
-    let low : a ≤ byte = leb-true a byte parts.0 in
-    let high : byte - a < 1 = ltb-true (byte - a) 1 parts.1 in
-    omega arith
+writes-one a value byte e = grind (arith, nat_tests)
 
 -- No byte is written by both of the last two stores.
 not_beside : IsFinding overwritten_before_flush (Overwritten 2 3) → ⊥
@@ -114,21 +93,10 @@ narrow_line_says = record {
   kept = keeps (flushed_further_on 64) (1 ∷ 4 ∷ []) refl;
 }
 
--- The first clflush has a store to wait for.
-first_clflush : IsFinding clflush_twice (RedundantFlush 2) → ⊥
-first_clflush (inl (t, l, redundant)) =
-    let e : Flushes t l ≡ Clflushes 64 = act-unique clflush_twice 2 (Flushes t l) (Clflushes 64) redundant.is_flush (clflush 0 0x1000, refl, refl) in cc
-first_clflush (inr (l, redundant)) =
-    let e : Clflushes l ≡ Clflushes 64 = act-unique clflush_twice 2 (Clflushes l) (Clflushes 64) redundant.is_clflush (clflush 0 0x1000, refl, refl) in
-    let line : l ≡ 64 = cc in
-    let P : ℕ → Type 0 = λ k. IsRedundantClflush clflush_twice k 2 in
-    let above : 1 ≤ 0 = (redundant_clflush_by_fronts clflush_twice 64 2 (clflush 0 0x1000, refl, refl)).0 (subst P line redundant) in
-    omega arith
-
 -- The second clflush comes when the store is safe.
 pub clflush_twice_says : ClflushTwice
 clflush_twice_says = record {
   second_is_redundant = inr (64, (redundant_clflush_by_fronts clflush_twice 64 3 (clflush 0 0x1000, refl, refl)).1 (lit≤ tt));
-  first_is_not = first_clflush;
+  first_is_not = unredundant_clflush clflush_twice 64 2 (clflush 0 0x1000, refl, refl) (λ above. omega arith);
   kept = keeps clflush_twice (1 ∷ 2 ∷ []) refl;
 }

@@ -1,9 +1,10 @@
 -- Which images a crash leaves of two stores that overlap.
-use Rattle.std.proofs.Common.{◌≡◌, ℕ, ◌-◌, ◌<◌, ◌≤◌, ◌⊎◌, ◌↔◌, Bool, true, false, List, [], ◌∷◌, None, inl, inr, refl, sym, ◌∙◌, ap, subst, lit≤, arith}
-use Rattle.std.specs.Prelude.{nat_lt, nat_le, slice_get, if◌then◌else◌}
-use Rattle.std.proofs.lemmas.Bool.{cases_eq, ne_eqb, leb-true, lt-ltb, ltb-true, and_parts, cond-false, false_from_ne_true}
+use Rattle.std.proofs.Common.{◌≡◌, ℕ, ◌<◌, ◌⊎◌, ◌↔◌, Bool, true, false, List, [], ◌∷◌, None, inl, inr, refl, sym, ◌∙◌, ap, lit≤, arith}
+use Rattle.std.specs.Prelude.{nat_lt, if◌then◌else◌}
+use Rattle.std.proofs.lemmas.Bool.{lt-ltb, ltb-true}
+use Rattle.std.proofs.lemmas.Bool.Decides.{nat_tests}
 use Rattle.pmt_model.specs.Values.{Written}
-use Rattle.pmt_model.specs.Machine.{Act, Stores, Image, writes, write, image_of, count}
+use Rattle.pmt_model.specs.Machine.{Act, Stores, Image, write, image_of, count}
 use Rattle.pmt_model.specs.Traces.{history, CrashAt}
 use Rattle.pmt_model.specs.Boxes.{InBox}
 use Rattle.pmt_laws.specs.Worked.{nothing, two_bytes, IsSame, second_byte_again, SecondByteAgain}
@@ -18,51 +19,13 @@ first = record { addr = 0x1000; bytes = 1 ∷ 2 ∷ [] }
 abbrev second : Written
 second = record { addr = 0x1001; bytes = 3 ∷ [] }
 
--- What holds of the two addresses and of all others holds of each.
-each_address : (P : ℕ → Type 0) → P 0x1000 → P 0x1001 → ((a : ℕ) → (a ≡ 0x1000 → ⊥) → (a ≡ 0x1001 → ⊥) → P a) → (a : ℕ) → P a
-each_address P low high others a = go (cases_eq a 0x1000) (cases_eq a 0x1001)
-  where
-    go : (a ≡ 0x1000) ⊎ (a ≡ 0x1000 → ⊥) → (a ≡ 0x1001) ⊎ (a ≡ 0x1001 → ⊥) → P a
-    go (inl e) other = subst P (sym e) low
-    go (inr apart) (inl e) = subst P (sym e) high
-    go (inr apart) (inr away) = others a apart away
-
--- Neither store writes at another address.
-first_elsewhere : (a : ℕ) → (a ≡ 0x1000 → ⊥) → (a ≡ 0x1001 → ⊥) → writes first a ≡ false
-first_elsewhere a apart away =
-    false_from_ne_true (writes first a)
-    (λ h.
-    let parts = and_parts (nat_le 0x1000 a) (nat_lt (a - 0x1000) 2) h in
-    let low : 0x1000 ≤ a = leb-true 0x1000 a parts.0 in
-    let high : a - 0x1000 < 2 = ltb-true (a - 0x1000) 2 parts.1 in
-    omega (arith, apart, away))
-
-second_elsewhere : (a : ℕ) → (a ≡ 0x1001 → ⊥) → writes second a ≡ false
-second_elsewhere a away =
-    false_from_ne_true (writes second a)
-    (λ h.
-    let parts = and_parts (nat_le 0x1001 a) (nat_lt (a - 0x1001) 1) h in
-    let low : 0x1001 ≤ a = leb-true 0x1001 a parts.0 in
-    let high : a - 0x1001 < 1 = ltb-true (a - 0x1001) 1 parts.1 in
-    omega (arith, away))
-
--- Nor is it written in the images.
-not_written : (x y a : ℕ) → (a ≡ 0x1000 → ⊥) → (a ≡ 0x1001 → ⊥) → None ≡ two_bytes 0x1000 x 0x1001 y a
-not_written x y a apart away = rw (ne_eqb a 0x1000 apart) (rw (ne_eqb a 0x1001 away) refl)
-
 -- The first store, written where nothing was.
 one_written : (a : ℕ) → write first nothing a ≡ two_bytes 0x1000 1 0x1001 2 a
-one_written =
-    each_address (λ a. write first nothing a ≡ two_bytes 0x1000 1 0x1001 2 a) refl refl
-    (λ a apart away. cond-false (writes first a) (slice_get first.bytes (a - 0x1000)) None (first_elsewhere a apart away) ∙ not_written 1 2 a apart away)
+one_written a = grind (arith, nat_tests)
 
 -- The second one, written over it.
 both_written : (a : ℕ) → write second (write first nothing) a ≡ two_bytes 0x1000 1 0x1001 3 a
-both_written =
-    each_address (λ a. write second (write first nothing) a ≡ two_bytes 0x1000 1 0x1001 3 a) refl refl
-    (λ a apart away.
-    cond-false (writes second a) (slice_get second.bytes (a - 0x1001)) (write first nothing a) (second_elsewhere a away)
-    ∙ cond-false (writes first a) (slice_get first.bytes (a - 0x1000)) None (first_elsewhere a apart away) ∙ not_written 1 3 a apart away)
+both_written a = grind (arith, nat_tests)
 
 -- The image where the tests tell which stores are persisted.
 abbrev after_tests : Bool → Bool → Image

@@ -1,12 +1,12 @@
 -- What the definitions say of the worked traces.
-use Rattle.std.proofs.Common.{◌≡◌, ℕ, zero, suc, ◌-◌, ◌<◌, ◌≤◌, ◌⊎◌, ◌↔◌, Bool, true, false, List, [], ◌∷◌, Option, Some, None, inl, inr, refl, sym, ◌∙◌, ap, subst, lit<, lit≤, arith}
-use Rattle.std.specs.Prelude.{nat_lt, nat_le, slice_get, ◌==◌, ◌&&◌, if◌then◌else◌}
-use Rattle.std.proofs.lemmas.Bool.{false≢true, cases_eq, eq-eqb, ne_eqb, le-leb, leb-true, lt-ltb, ltb-true, and_from, and_parts, cond-true, cond-false, false_from_ne_true}
+use Rattle.std.proofs.Common.{◌≡◌, ℕ, zero, suc, ◌-◌, ◌<◌, ◌≤◌, ◌⊎◌, ◌↔◌, Bool, true, false, List, [], ◌∷◌, Option, None, inl, inr, refl, sym, ◌∙◌, ap, subst, lit<, lit≤, arith, max, unwrap_or}
+use Rattle.std.specs.Prelude.{nat_lt, slice_get, if◌then◌else◌}
+use Rattle.std.proofs.lemmas.Bool.{false≢true, cases_eq, ne_eqb, lt-ltb}
 use Rattle.pmt_model.specs.declared.finding.Finding.TheVariants.{RedundantFlush, Overwritten}
 use Rattle.pmt_model.specs.Values.{Written}
 use Rattle.pmt_model.specs.Machine.{Act, Stores, Flushes, Clflushes, Fences, State, Ends, Image, writes, write, image_of, Crash, count}
-use Rattle.pmt_model.specs.Traces.{IsAct, history, CrashAt, VectorsAt}
-use Rattle.pmt_model.specs.Fronts.{front, front_at}
+use Rattle.pmt_model.specs.Traces.{IsAct, history, CrashAt, VectorsAt, Recording, count_at}
+use Rattle.pmt_model.specs.Fronts.{front, front_at, open_mark}
 use Rattle.pmt_model.specs.Boxes.{InBox}
 use Rattle.pmt_model.specs.Selections.{cut}
 use Rattle.pmt_model.specs.Findings.{ByFlush, ByClflush, IsFlushedAfter, IsFlushOf, IsEmptyFence, IsCovered, IsRedundantFlush, IsRedundantClflush}
@@ -20,6 +20,25 @@ use Rattle.pmt_laws.proofs.NeverLemmas.{never_persisted_by_fronts}
 use Rattle.pmt_laws.proofs.RedundantLemmas.{redundant_flush_by_fronts, redundant_clflush_by_fronts}
 use Rattle.pmt_laws.proofs.ByteAssertions.{keeps, covered-passes, passes-covered, no_later-passes, passes-no_later}
 use Rattle.pmt_laws.proofs.SelectionTest.{selection-is_selection}
+use Rattle.std.proofs.lemmas.Bool.Decides.{nat_tests}
+
+-- A flush for which there are more stores than the front and the open mark count is not redundant.
+pub unredundant_flush : (T : Recording) (t l i : ℕ) → IsAct T i (Flushes t l) →
+    ¬ (count_at T l i ≤ max (front_at T l (i - 1)) (unwrap_or (open_mark t l (history T (i - 1))) 0)) → ¬ IsFinding T (RedundantFlush i)
+unredundant_flush T t l i is more (inl (u, k, redundant)) =
+    let same : Flushes u k ≡ Flushes t l = act-unique T i (Flushes u k) (Flushes t l) redundant.is_flush is in
+    let thread : u ≡ t = cc in
+    let line : k ≡ l = cc in
+    more ((redundant_flush_by_fronts T t l i is).0 (subst (λ v. IsRedundantFlush T v l i) thread (subst (λ m. IsRedundantFlush T u m i) line redundant)))
+unredundant_flush T t l i is more (inr (k, redundant)) = let same = act-unique T i (Clflushes k) (Flushes t l) redundant.is_clflush is in cc
+
+-- Nor is a clflush for which there are more than the front counts.
+pub unredundant_clflush : (T : Recording) (l i : ℕ) → IsAct T i (Clflushes l) → ¬ (count_at T l i ≤ front_at T l (i - 1)) → ¬ IsFinding T (RedundantFlush i)
+unredundant_clflush T l i is more (inl (u, k, redundant)) = let same = act-unique T i (Flushes u k) (Clflushes l) redundant.is_flush is in cc
+unredundant_clflush T l i is more (inr (k, redundant)) =
+    let same : Clflushes k ≡ Clflushes l = act-unique T i (Clflushes k) (Clflushes l) redundant.is_clflush is in
+    let line : k ≡ l = cc in
+    more ((redundant_clflush_by_fronts T l i is).0 (subst (λ m. IsRedundantClflush T m i) line redundant))
 
 -- The fence of thread 1 has no flush of thread 1 before it.
 no_flush_of_thread_1 : IsEmptyFence fence_of_another_thread 3
@@ -41,23 +60,7 @@ no_flush_of_thread_1 = record {
 
 -- A store of one byte to memory in which nothing was written.
 store_alone : (a byte b : ℕ) → write (record { addr = a; bytes = byte ∷ [] }) nothing b ≡ byte_alone a byte b
-store_alone a byte b = go (cases_eq b a)
-  where
-    go : (b ≡ a) ⊎ (b ≡ a → ⊥) → write (record { addr = a; bytes = byte ∷ [] }) nothing b ≡ byte_alone a byte b
-    go (inl e) =
-        let here : (nat_le a b && nat_lt (b - a) 1) ≡ true = and_from (nat_le a b) (nat_lt (b - a) 1) (le-leb a b (omega arith)) (lt-ltb (b - a) 1 (omega arith)) in
-        let first : b - a ≡ 0 = omega arith in
-        cond-true (nat_le a b && nat_lt (b - a) 1) (slice_get (byte ∷ []) (b - a)) None here ∙ ap (slice_get (byte ∷ [])) first
-        ∙ sym (cond-true (b == a) (Some byte) None (eq-eqb b a e))
-    go (inr apart) =
-        let away : (nat_le a b && nat_lt (b - a) 1) ≡ false =
-        false_from_ne_true (nat_le a b && nat_lt (b - a) 1)
-        (λ h.
-        let parts = and_parts (nat_le a b) (nat_lt (b - a) 1) h in
-        let low : a ≤ b = leb-true a b parts.0 in
-        let high : b - a < 1 = ltb-true (b - a) 1 parts.1 in
-        apart (omega arith)) in
-        cond-false (nat_le a b && nat_lt (b - a) 1) (slice_get (byte ∷ []) (b - a)) None away ∙ sym (cond-false (b == a) (Some byte) None (ne_eqb b a apart))
+store_alone a byte b = grind (arith, nat_tests)
 
 -- After the fence of the other thread the store is persisted or not.
 one_or_none : (persisted : ℕ → ℕ) (a : ℕ) →
@@ -117,22 +120,6 @@ not_covered_by_other covered =
     let e : Flushes 1 64 ≡ Flushes 0 64 = act-unique flushed_by_two_threads 2 (Flushes 1 64) (Flushes 0 64) (subst P number covered.is_flush) (clwb 0 0x1000, refl, refl) in
     cc
 
--- So the flush of thread 1 has a store to mark.
-not_redundant_to_other : IsFinding flushed_by_two_threads (RedundantFlush 3) → ⊥
-not_redundant_to_other (inl (t, l, redundant)) =
-    let e : Flushes t l ≡ Flushes 1 64 = act-unique flushed_by_two_threads 3 (Flushes t l) (Flushes 1 64) redundant.is_flush (clwb 1 0x1000, refl, refl) in
-    go t l (cc) (cc) redundant
-  where
-    go : (t l : ℕ) → 1 ≡ t → 64 ≡ l → IsRedundantFlush flushed_by_two_threads t l 3 → ⊥
-    go t l e d redundant =
-        let P : ℕ → Type 0 = λ u. IsRedundantFlush flushed_by_two_threads u l 3 in
-        let Q : ℕ → Type 0 = λ k. IsRedundantFlush flushed_by_two_threads 1 k 3 in
-        let exact : IsRedundantFlush flushed_by_two_threads 1 64 3 = subst Q (sym d) (subst P (sym e) redundant) in
-        let above : 1 ≤ 0 = (redundant_flush_by_fronts flushed_by_two_threads 1 64 3 (clwb 1 0x1000, refl, refl)).0 exact in
-        omega arith
-not_redundant_to_other (inr (l, redundant)) =
-    let e : Clflushes l ≡ Flushes 1 64 = act-unique flushed_by_two_threads 3 (Clflushes l) (Flushes 1 64) redundant.is_clflush (clwb 1 0x1000, refl, refl) in cc
-
 -- The fence of thread 1 persists the store, and thread 0 adds nothing.
 pub flushed_by_two_threads_says : FlushedByTwoThreads
 flushed_by_two_threads_says = record {
@@ -140,7 +127,7 @@ flushed_by_two_threads_says = record {
   fenced = (refl, refl);
   fenced_again = (refl, refl);
   not_covered = not_covered_by_other;
-  not_redundant = not_redundant_to_other;
+  not_redundant = unredundant_flush flushed_by_two_threads 1 64 3 (clwb 1 0x1000, refl, refl) (λ above. omega arith);
   kept = keeps flushed_by_two_threads (1 ∷ 3 ∷ 4 ∷ []) refl;
 }
 
@@ -309,23 +296,12 @@ same_byte_twice_says = record {
   other_counts = λ faithful. second_store_lost faithful.vectors;
 }
 
--- The store is not safe when the clflush comes.
-clflush_is_needed : IsFinding clflush_beats_clwb (RedundantFlush 3) → ⊥
-clflush_is_needed (inl (t, l, redundant)) =
-    let e : Flushes t l ≡ Clflushes 64 = act-unique clflush_beats_clwb 3 (Flushes t l) (Clflushes 64) redundant.is_flush (clflush 1 0x1000, refl, refl) in cc
-clflush_is_needed (inr (l, redundant)) =
-    let e : Clflushes l ≡ Clflushes 64 = act-unique clflush_beats_clwb 3 (Clflushes l) (Clflushes 64) redundant.is_clflush (clflush 1 0x1000, refl, refl) in
-    let line : l ≡ 64 = cc in
-    let P : ℕ → Type 0 = λ k. IsRedundantClflush clflush_beats_clwb k 3 in
-    let above : 1 ≤ 0 = (redundant_clflush_by_fronts clflush_beats_clwb 64 3 (clflush 1 0x1000, refl, refl)).0 (subst P line redundant) in
-    omega arith
-
 -- The clflush alone raises the front.
 pub clflush_beats_clwb_says : ClflushBeatsClwb
 clflush_beats_clwb_says = record {
   flushed = (refl, refl);
   flushed_now = (refl, refl);
   fenced = (refl, refl);
-  not_redundant = clflush_is_needed;
+  not_redundant = unredundant_clflush clflush_beats_clwb 64 3 (clflush 1 0x1000, refl, refl) (λ above. omega arith);
   kept = keeps clflush_beats_clwb (1 ∷ 3 ∷ []) refl;
 }
