@@ -1,5 +1,5 @@
 -- The sum of the first digits, each by what it counts.
-use Rattle.std.proofs.Common.{◌≡◌, ℕ, zero, suc, ◌+◌, ◌-◌, ◌*◌, ◌%◌, ◌<◌, ◌≤◌, true, List, [], ◌∷◌, ◌++◌, map, length, get_or, take, replicate, refl, sym, ◌∙◌, ap, arith}
+use Rattle.std.proofs.Common.{◌≡◌, ℕ, zero, suc, ◌+◌, ◌-◌, ◌*◌, ◌%◌, ◌<◌, ◌≤◌, true, List, [], ◌∷◌, ◌++◌, length, get_or, take, replicate, ◌∙◌, arith}
 use Rattle.std.proofs.lemmas.Bool.Decides.{nat_tests}
 use Rattle.std.specs.Char.{digit_value, is_ascii_digit}
 use Rattle.std.specs.Str.Parse.{digits_value}
@@ -27,7 +27,6 @@ Sums n v = ((k : ℕ) → k < n → is_ascii_digit (get_or v k 0) ≡ true) → 
 
 -- one to four digits
 sums : (n : ℕ) → 1 ≤ n → n ≤ 4 → (v : List ℕ) → length v ≡ 16 → Sums n v
-sums zero some few v long = absurd (omega arith)
 sums (suc zero) some few v long = written_out (Sums 1) 16 (λ f h. omega (arith, low (f 0) (h 0 (omega arith)), lane_is (f 0) (h 0 (omega arith)))) v long
 sums (suc (suc zero)) some few v long =
     written_out (Sums 2) 16 (λ f h. omega (arith, low (f 0) (h 0 (omega arith)), lane_is (f 0) (h 0 (omega arith)), low (f 1) (h 1 (omega arith)), lane_is (f 1) (h 1 (omega arith)))) v long
@@ -35,7 +34,7 @@ sums (suc (suc (suc zero))) some few v long =
     written_out (Sums 3) 16 (λ f h. omega (arith, low (f 0) (h 0 (omega arith)), lane_is (f 0) (h 0 (omega arith)), low (f 1) (h 1 (omega arith)), lane_is (f 1) (h 1 (omega arith)), low (f 2) (h 2 (omega arith)), lane_is (f 2) (h 2 (omega arith)))) v long
 sums (suc (suc (suc (suc zero)))) some few v long =
     written_out (Sums 4) 16 (λ f h. omega (arith, low (f 0) (h 0 (omega arith)), lane_is (f 0) (h 0 (omega arith)), low (f 1) (h 1 (omega arith)), lane_is (f 1) (h 1 (omega arith)), low (f 2) (h 2 (omega arith)), lane_is (f 2) (h 2 (omega arith)), low (f 3) (h 3 (omega arith)), lane_is (f 3) (h 3 (omega arith)))) v long
-sums (suc (suc (suc (suc (suc n))))) some few v long = absurd (omega arith)
+sums a some few v long = absurd (omega arith)
 
 pub value_is : (n : ℕ) → 1 ≤ n → n ≤ 4 → (v : List ℕ) → length v ≡ 16 → ((k : ℕ) → k < n → is_ascii_digit (get_or v k 0) ≡ true) → summed v (get_or WORTH n []) ≡ digits_value 10 (take n v)
 value_is n some few v long h = sums n some few v long h

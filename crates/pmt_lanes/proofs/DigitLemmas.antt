@@ -108,14 +108,12 @@ wide (x ∷ y ∷ rest) = (x + 256 * y) ∷ wide rest
 
 widened : (n : ℕ) (xs : List ℕ) → length xs ≡ n + n → AllBelowBase 16 xs → digits_l 65536 n (number_l 256 xs) ≡ wide xs
 widened zero [] long low = refl
-widened zero (x ∷ xs) long low = absurd (omega arith)
-widened (suc n) [] long low = absurd (omega arith)
-widened (suc n) (x ∷ []) long low = absurd (omega arith)
 widened (suc n) (x ∷ y ∷ rest) long low =
     let r : ℕ = number_l 256 rest in
     let lane : (x + 256 * (y + 256 * r)) % 65536 ≡ x + 256 * y = omega (arith, low.0, low.1.0) in
     let on : (x + 256 * (y + 256 * r)) / 65536 ≡ r = omega (arith, low.0, low.1.0) in
     ap₂ (λ (a k : ℕ). a ∷ digits_l 65536 n k) lane on ∙ ap (λ (l : List ℕ). (x + 256 * y) ∷ l) (widened n rest (omega arith) low.1.1)
+widened b c long low = absurd (omega arith)
 
 -- two digits of a lane as one byte
 abbrev both : ℕ → ℕ
@@ -125,34 +123,30 @@ pub low_byte : (z : ℕ) → Fits w8 (bit_and z 255)
 low_byte z = record { fits = omega (arith, and_le_r z 255) }
 
 both_are : (xs : List ℕ) → AllBelowBase 16 xs → map both (wide xs) ≡ joined xs
-both_are [] low = refl
-both_are (x ∷ []) low = refl
 both_are (x ∷ y ∷ rest) low =
     let z : ℕ = x + 256 * y in
     let lane : both z ≡ 16 * x + y = and_mask ((z * 16 % 65536 + z / 256) % 65536) 8 ∙ omega (arith, low.0, low.1.0) in
     ap₂ (λ (a : ℕ) (l : List ℕ). a ∷ l) lane (both_are rest low.1.1)
+both_are b low = refl
 
 pub join_is : (xs : List ℕ) → length xs ≡ 16 → AllBelowBase 16 xs → map both (digits_l 65536 8 (number_l 256 xs)) ≡ joined xs
 join_is xs long low = ap (map both) (widened 8 xs long low) ∙ both_are xs low
 
 joined_values : (xs : List ℕ) → joined (map digit_value xs) ≡ paired xs
-joined_values [] = refl
-joined_values (x ∷ []) = refl
 joined_values (x ∷ y ∷ rest) = ap (λ (l : List ℕ). (16 * digit_value x + digit_value y) ∷ l) (joined_values rest)
+joined_values a = refl
 
 take_joined : (n : ℕ) (ds : List ℕ) → take n (joined ds) ≡ joined (take (2 * n) ds)
 take_joined zero ds = refl
-take_joined (suc n) [] = let even : 2 * suc n ≡ suc (suc (2 * n)) = omega arith in rw even refl
-take_joined (suc n) (x ∷ []) = let even : 2 * suc n ≡ suc (suc (2 * n)) = omega arith in rw even refl
 take_joined (suc n) (x ∷ y ∷ rest) =
     let even : 2 * suc n ≡ suc (suc (2 * n)) = omega arith in
     rw even (ap (λ (l : List ℕ). (16 * x + y) ∷ l) (take_joined n rest))
+take_joined (suc n) a = let even : 2 * suc n ≡ suc (suc (2 * n)) = omega arith in rw even refl
 
 joined-lt : (ds : List ℕ) → AllBelowBase 16 ds → (i : ℕ) → get_or (joined ds) i 0 < 256
-joined-lt [] low i = omega arith
-joined-lt (x ∷ []) low i = omega arith
 joined-lt (x ∷ y ∷ rest) low zero = omega (arith, low.0, low.1.0)
 joined-lt (x ∷ y ∷ rest) low (suc i) = joined-lt rest low.1.1 i
+joined-lt a low i = omega arith
 
 -- the bytes that the pairs of a run write
 pub bytes_read : (text : List ℕ) (n number : ℕ) → 16 ≤ length text → 2 * n ≡ prefix_len is_hex_digit (take 16 text) → 2 * n ≤ 16 → number ≡ from_le_bytes w64 (joined (map nibble (take 16 text)))

@@ -59,9 +59,8 @@ run_is q v long stop =
 
 choice_by : (q : ℕ → Bool) (y z n : ℕ) (v : List ℕ) → length v ≡ n → sel_l (map q v) (replicate n y) (replicate n z) ≡ map (λ x. cond (q x) y z) v
 choice_by q y z zero [] long = refl
-choice_by q y z (suc n) [] long = absurd (omega arith)
-choice_by q y z zero (x ∷ xs) long = absurd (omega arith)
 choice_by q y z (suc n) (x ∷ xs) long = ap (λ (l : List ℕ). cond (q x) y z ∷ l) (choice_by q y z n xs (omega arith))
+choice_by q y z a b long = absurd (omega arith)
 
 pub choice : (f : ℕ → ℕ) (y z : ℕ) (v : List ℕ) {m : List ℕ} → length v ≡ 16 → m ≡ map f v → sel_l (map (top 7) m) (replicate 16 y) (replicate 16 z) ≡ map (λ x. cond (top 7 (f x)) y z) v
 choice f y z v long e =

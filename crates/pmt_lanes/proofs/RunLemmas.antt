@@ -8,9 +8,8 @@ step false n m r e = omega arith
 
 -- among the first n bytes
 pub run-take : (q : ℕ → Bool) (n : ℕ) (xs : List ℕ) → prefix_len q (take n xs) ≡ min n (prefix_len q xs)
-run-take q zero xs = omega arith
-run-take q (suc n) [] = omega arith
 run-take q (suc n) (x ∷ xs) = step (q x) n (prefix_len q (take n xs)) (prefix_len q xs) (run-take q n xs)
+run-take q a b = omega arith
 
 -- what is told where nothing was found, and where something was
 pub not_found : {A : Type 0} → (A → ⊥) → (false ≡ true → A) × (A → false ≡ true)

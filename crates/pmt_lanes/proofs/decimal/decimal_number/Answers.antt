@@ -1,5 +1,5 @@
 -- The digits are among the first sixteen bytes.
-use Rattle.std.proofs.Common.{ℕ, ap, ◌∙◌, take, arith}
+use Rattle.std.proofs.Common.{ap, ◌∙◌, arith}
 use Rattle.std.specs.Str.Parse.{digits_value}
 use Rattle.std.proofs.lemmas.List.{take-take}
 use Rattle.pmt_lanes.proofs.decimal.decimal_number.Goals as goal

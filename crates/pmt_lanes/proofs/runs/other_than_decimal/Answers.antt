@@ -1,5 +1,5 @@
 -- A lane is set where its byte is no digit.
-use Rattle.std.proofs.Common.{ℕ, cond, leb, not, refl}
+use Rattle.std.proofs.Common.{cond, leb, not, refl}
 use Rattle.std.proofs.lemmas.Simd.{splat_is_map, zip2_of_maps, zip2_splat}
 use Rattle.std.specs.Char.{is_ascii_digit}
 use Rattle.pmt_lanes.proofs.LaneLemmas.{masked}
