@@ -1,7 +1,8 @@
 -- A list in order is known by its members, so a trace has one list of findings, and one of verdicts.
 use Rattle.std.proofs.Common.{◌≡◌, ℕ, ◌<◌, ◌↔◌, inl, inr, ◌⊎◌, List, [], ◌∷◌, refl, sym, ◌∙◌, ap₂, subst, arith}
+use Rattle.std.proofs.lemmas.Bool.Decides.{nat_tests}
 use Rattle.pmt_model.specs.declared.finding.Finding.{Finding}
-use Rattle.pmt_model.specs.declared.finding.Finding.TheVariants.{Overwritten, NeverPersisted, RedundantFlush, FenceWithoutFlush}
+use Rattle.pmt_model.specs.declared.finding.Finding.TheVariants.{Overwritten, NeverPersisted}
 use Rattle.pmt_model.specs.declared.finding.Verdict.{Verdict}
 use Rattle.pmt_model.specs.Traces.{Recording}
 use Rattle.pmt_model.specs.Analyses.{ComesFirst, IsReportedBefore, InReportOrder, HasFinding, IsFindings, HasVerdict, InEventOrder, IsVerdicts}
@@ -56,12 +57,7 @@ comes_apart (Overwritten j i) (NeverPersisted m w) h b = b
 comes_apart a c h b = h
 
 comes_after : (f g h : Finding) → ComesFirst f g → ComesFirst g h → ComesFirst f h
-comes_after (Overwritten j i) (Overwritten k m) (Overwritten l n) a b = omega arith
-comes_after (Overwritten j i) (Overwritten k m) (NeverPersisted n w) a b = tt
-comes_after (Overwritten j i) (Overwritten k m) (RedundantFlush n) a b = b
-comes_after (Overwritten j i) (Overwritten k m) (FenceWithoutFlush n) a b = b
-comes_after (Overwritten j i) (NeverPersisted m w) h a b = absurd b
-comes_after c d h a b = absurd a
+comes_after c d h a b = grind (arith, nat_tests)
 
 reported_apart : Apart IsReportedBefore
 reported_apart f g (inl a) (inl b) = omega arith
@@ -78,27 +74,11 @@ reported_after f g h (inr a) (inr b) = inr (a.0 ∙ b.0, comes_after f g h a.1 b
 ordered_findings : (fs : List Finding) → InReportOrder fs → Ordered IsReportedBefore fs
 ordered_findings [] o = tt
 ordered_findings (f ∷ []) o = (λ g h. absurd h, tt)
-ordered_findings (f ∷ g ∷ fs) o =
-    let rest : Ordered IsReportedBefore (g ∷ fs) = ordered_findings (g ∷ fs) o.1 in
-    (λ h has. before h has rest, rest)
-  where
-    before : (h : Finding) → Has (g ∷ fs) h → Ordered IsReportedBefore (g ∷ fs) → IsReportedBefore f h
-    before h (inl e) rest = subst (λ x. IsReportedBefore f x) e o.0
-    before h (inr has) rest = reported_after f g h o.0 (rest.0 h has)
+ordered_findings (f ∷ g ∷ fs) o = grind (arith, nat_tests, reported_after, ordered_findings (g ∷ fs) o.1)
 
 has_finding : (fs : List Finding) (f : Finding) → Has fs f ↔ HasFinding fs f
 has_finding [] f = (λ h. h, λ h. h)
-has_finding (g ∷ fs) f =
-    let rest : Has fs f ↔ HasFinding fs f = has_finding fs f in
-    (there rest, back rest)
-  where
-    there : Has fs f ↔ HasFinding fs f → Has (g ∷ fs) f → HasFinding (g ∷ fs) f
-    there rest (inl e) = inl e
-    there rest (inr h) = inr (rest.0 h)
-
-    back : Has fs f ↔ HasFinding fs f → HasFinding (g ∷ fs) f → Has (g ∷ fs) f
-    back rest (inl e) = inl e
-    back rest (inr h) = inr (rest.1 h)
+has_finding (hd ∷ tl) f = grind (arith, nat_tests, has_finding tl f)
 
 one_list_of_findings : (T : Recording) (fs gs : List Finding) → IsFindings T fs → IsFindings T gs → fs ≡ gs
 one_list_of_findings T fs gs a b =
@@ -125,17 +105,7 @@ ordered_verdicts low (v ∷ vs) o = (λ w h. all_later v.event vs w o.1 h, order
 
 has_verdict : (vs : List Verdict) (v : Verdict) → Has vs v ↔ HasVerdict vs v
 has_verdict [] v = (λ h. h, λ h. h)
-has_verdict (w ∷ vs) v =
-    let rest : Has vs v ↔ HasVerdict vs v = has_verdict vs v in
-    (there rest, back rest)
-  where
-    there : Has vs v ↔ HasVerdict vs v → Has (w ∷ vs) v → HasVerdict (w ∷ vs) v
-    there rest (inl e) = inl e
-    there rest (inr h) = inr (rest.0 h)
-
-    back : Has vs v ↔ HasVerdict vs v → HasVerdict (w ∷ vs) v → Has (w ∷ vs) v
-    back rest (inl e) = inl e
-    back rest (inr h) = inr (rest.1 h)
+has_verdict (hd ∷ tl) v = grind (arith, nat_tests, has_verdict tl v)
 
 one_list_of_verdicts : (T : Recording) (vs ws : List Verdict) → IsVerdicts T vs → IsVerdicts T ws → vs ≡ ws
 one_list_of_verdicts T vs ws a b =

@@ -1,7 +1,7 @@
 -- The verdicts of the two assertions, by the fronts.
-use Rattle.std.proofs.Common.{◌≡◌, ℕ, suc, ◌≤◌, ◌==◌, true, false, if◌then◌else◌, List, [], ◌∷◌, ◌++◌, Option, Some, None, IfSome, IsSomeAnd, inl, inr, refl, sym, ◌∙◌, ap, subst, le_trans, le_of_eq, arith}
+use Rattle.std.proofs.Common.{◌≡◌, ℕ, ◌≤◌, ◌==◌, true, false, if◌then◌else◌, List, [], ◌∷◌, ◌++◌, Option, Some, None, IfSome, IsSomeAnd, inl, inr, refl, sym, ◌∙◌, ap, subst, le_trans, le_of_eq, arith}
 use Rattle.std.proofs.lemmas.Option.{IfSome_then}
-use Rattle.std.proofs.lemmas.Bool.Decides.{eqb_tells}
+use Rattle.std.proofs.lemmas.Bool.Decides.{eqb_tells, nat_tests}
 use Rattle.pmt_model.specs.Machine.{Act, Stores, Clflushes, Fences, count, writes, State, Ends, IsMoment}
 use Rattle.pmt_model.specs.Fronts.{front}
 use Rattle.pmt_model.specs.Boxes.{InBox}
@@ -48,12 +48,7 @@ count-append l (a ∷ newer) h = le_trans (count-append l newer h) (count-grows 
 -- The rank of the last store to a byte is the number of stores to its line, up to it.
 pub last_rank : (b : ℕ) (h : List Act) → IfSome (last_store b h) (λ y. count y.line (up_to_last b h) ≡ y.rank)
 last_rank b [] = tt
-last_rank b (Stores k w ∷ h) =
-    elim (writes w b) as (λ t. IfSome (if t then Some (record { line = k; rank = suc (count k h) }) else last_store b h) (λ y. count y.line (if t then Stores k w ∷ h else up_to_last b h) ≡ y.rank)) [
-      | true ↦ count-store k k w h refl
-      | false ↦ last_rank b h
-    ]
-last_rank b (a ∷ h) = last_rank b h
+last_rank b (hd ∷ tl) = grind (arith, nat_tests, count-store, last_rank b tl)
 
 -- The front up to the last store to a byte is no more than the front.
 pub front-up_to_last : (l b : ℕ) (h : List Act) → front l (up_to_last b h) ≤ front l h
@@ -69,12 +64,7 @@ pub front_by_then :
     (b l : ℕ) (newer h : List Act) →
     IfSome (last_store b (newer ++ h)) (λ y. y.rank ≤ count y.line h → front l (up_to_last b (newer ++ h)) ≤ front l h)
 front_by_then b l [] h = IfSome_then (last_store b h) (last_rank b h) (λ y e among. front-up_to_last l b h)
-front_by_then b l (Stores k w ∷ newer) h =
-    elim (writes w b) as (λ t. IfSome (if t then Some (record { line = k; rank = suc (count k (newer ++ h)) }) else last_store b (newer ++ h)) (λ y. y.rank ≤ count y.line h → front l (if t then Stores k w ∷ (newer ++ h) else up_to_last b (newer ++ h)) ≤ front l h)) [
-      | true ↦ λ among. absurd (omega (arith, count-append k newer h, among))
-      | false ↦ front_by_then b l newer h
-    ]
-front_by_then b l (a ∷ newer) h = front_by_then b l newer h
+front_by_then b l (hd ∷ tl) h = grind (arith, nat_tests, last_rank, front-up_to_last, count-append, front_by_then b l tl h)
 
 -- Counts of persisted stores after a history that ends with store y: y is persisted, and no more than has to be.
 abbrev pub just_persisted : Placed → List Act → ℕ → ℕ

@@ -1,6 +1,7 @@
 -- The counts of persisted stores that the runs of a history end with are those between the fronts and the counts of stores.
 use Rattle.std.proofs.Common.{◌≡◌, ℕ, suc, ◌<◌, ◌≤◌, min, inl, inr, List, [], ◌∷◌, ◌==◌, refl, sym, ap, subst, subst₂, ◌↔◌, ◌∙◌, eq-eqb, eqb-true, ne_eqb, le_trans, arith}
 use Rattle.std.proofs.lemmas.Bool.{cond_both, cond-true, cond-false, cases_lt, cases_eq}
+use Rattle.std.proofs.lemmas.Bool.Decides.{nat_tests}
 use Rattle.pmt_model.specs.Values.{Written}
 use Rattle.pmt_model.specs.Machine.{Act, Stores, Flushes, Clflushes, Fences, State, Allows, Leads, Stays, Acts, Persists, Ends, Vectors, count, start, after, after_persist, outstanding_after}
 use Rattle.pmt_model.specs.Fronts.{mark, front}
@@ -39,15 +40,7 @@ reached-after s a reached allowed = record {
 
 -- and under a persist step
 pub reached-after_persist : (s : State) (l : ℕ) → IsReached s → s.persisted l < count l s.history → IsReached (after_persist s l)
-reached-after_persist s l reached room = record {
-  owes = reached.owes;
-  box = λ k. (
-    cond_both (k == l) (suc (s.persisted k)) (s.persisted k) (λ x. front k s.history ≤ x) (λ same. let b = (reached.box k).0 in omega arith) (λ other. (reached.box k).0),
-    cond_both (k == l) (suc (s.persisted k)) (s.persisted k) (λ x. x ≤ count k s.history)
-        (λ same. subst (λ j. suc (s.persisted j) ≤ count j s.history) (sym (eqb-true k l same)) room)
-        (λ other. (reached.box k).1),
-  );
-}
+reached-after_persist s l reached room = grind (arith, nat_tests, cond_both)
 
 -- what holds of each state that a run comes to
 pub leads-reached : (s : State) → Leads start s → IsReached s

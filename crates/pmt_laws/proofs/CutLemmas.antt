@@ -1,6 +1,7 @@
 -- Places and events of a trace, and the matching ones of the trace cut to a selection.
-use Rattle.std.proofs.Common.{◌≡◌, ℕ, zero, suc, ◌<◌, ◌≤◌, ◌⊎◌, ◌==◌, false, if◌then◌else◌, List, [], ◌∷◌, length, Some, slice_get, filter_map, refl, sym, ◌∙◌, ap, inl, inr, ⊎_elim, arith}
+use Rattle.std.proofs.Common.{◌≡◌, ℕ, zero, suc, ◌<◌, ◌≤◌, ◌⊎◌, ◌==◌, false, if◌then◌else◌, List, [], ◌∷◌, length, Some, slice_get, filter_map, refl, sym, ◌∙◌, ap, inl, inr, arith}
 use Rattle.std.proofs.lemmas.Bool.{le-leb, lt-leb, cases_eq, cases_lt, false_from_ne_true, true≢false}
+use Rattle.std.proofs.lemmas.Bool.Decides.{nat_tests}
 use Rattle.pmt_model.specs.declared.event.Event.{Event}
 use Rattle.pmt_model.specs.Machine.{Act, Stores, Asserts, count}
 use Rattle.pmt_model.specs.Traces.{Recording, event, IsAct, history, count_at}
@@ -10,12 +11,7 @@ use Rattle.pmt_laws.proofs.Histories.{event-some, history-act, history-step}
 -- A number stands in the list or not.
 pub has-dec : (K : List ℕ) (n : ℕ) → Has K n ⊎ (Has K n → ⊥)
 has-dec [] n = inr (λ h. h)
-has-dec (k ∷ ks) n = go (cases_eq k n) (has-dec ks n)
-  where
-    go : (k ≡ n) ⊎ (k ≡ n → ⊥) → Has ks n ⊎ (Has ks n → ⊥) → Has (k ∷ ks) n ⊎ (Has (k ∷ ks) n → ⊥)
-    go (inl e) d = inl (inl e)
-    go (inr e) (inl h) = inl (inr h)
-    go (inr e) (inr h) = inr (⊎_elim e h)
+has-dec (hd ∷ tl) n = grind (arith, nat_tests, cases_eq, has-dec tl n)
 
 -- A rising list has only numbers above its bound.
 pub has-above : (low : ℕ) (K : List ℕ) (n : ℕ) → IsRising low K → Has K n → low < n
@@ -53,24 +49,12 @@ place-kept K n r h = place-kept_from 0 K n r h
 -- The matching place stays at a number that is not kept.
 pub place-dropped : (K : List ℕ) (n : ℕ) → (Has K (suc n) → ⊥) → matching_place K (suc n) ≡ matching_place K n
 place-dropped [] n h = refl
-place-dropped (k ∷ ks) n h =
-    ⊎_elim
-    (λ (below : k < suc n). place-in k ks (suc n) (omega arith) ∙ ap suc (place-dropped ks n (λ has. h (inr has))) ∙ sym (place-in k ks n (omega arith)))
-    (λ (above : suc n ≤ k).
-    let apart : suc n < k = omega (arith, λ (e : k ≡ suc n). h (inl e)) in
-    place-out k ks (suc n) apart ∙ place-dropped ks n (λ has. h (inr has)) ∙ sym (place-out k ks n (omega arith)))
-    (cases_lt k (suc n))
+place-dropped (hd ∷ tl) n h = grind (arith, nat_tests, place-in, place-out, cases_lt, place-dropped tl n (λ has. h (inr has)))
 
 -- A later place has a later matching place.
 pub place-mono : (K : List ℕ) (m n : ℕ) → m ≤ n → matching_place K m ≤ matching_place K n
 place-mono [] m n h = omega arith
-place-mono (k ∷ ks) m n h = go (cases_lt m k) (cases_lt n k) (place-mono ks m n h)
-  where
-    go : (m < k) ⊎ (k ≤ m) → (n < k) ⊎ (k ≤ n) → matching_place ks m ≤ matching_place ks n → matching_place (k ∷ ks) m ≤ matching_place (k ∷ ks) n
-    go (inl before) (inl early) le = omega (arith, place-out k ks m before, place-out k ks n early)
-    go (inl before) (inr late) le = omega (arith, place-out k ks m before, place-in k ks n late)
-    go (inr after) (inl early) le = absurd (omega arith)
-    go (inr after) (inr late) le = omega (arith, place-in k ks m after, place-in k ks n late)
+place-mono (hd ∷ tl) m n h = grind (arith, nat_tests, cases_lt, place-out, place-in, place-mono tl m n h)
 
 -- Each number is that of an event.
 abbrev AreThere : Recording → List ℕ → Type 0
@@ -177,9 +161,4 @@ count-dropped l a h e = refl
 -- The cut has the same counts of stores at matching places.
 pub count-cut : (T : Recording) (K : List ℕ) (l n : ℕ) → IsSelection T K → count_at (cut T K) l (matching_place K n) ≡ count_at T l n
 count-cut T K l zero s = ap (count l) (history-zero T K s)
-count-cut T K l (suc n) s = go (next-step T K n s) (count-cut T K l n s)
-  where
-    go : IsNext T K n → count_at (cut T K) l (matching_place K n) ≡ count_at T l n → count_at (cut T K) l (matching_place K (suc n)) ≡ count_at T l (suc n)
-    go (Keeps a is has whole part) e = ap (count l) part ∙ count-same l a (history (cut T K) (matching_place K n)) (history T n) e ∙ ap (count l) (sym whole)
-    go (Drops a is has free whole part) e = ap (count l) part ∙ e ∙ sym (count-dropped l a (history T n) free) ∙ ap (count l) (sym whole)
-    go (Ended whole part) e = ap (count l) part ∙ e ∙ ap (count l) (sym whole)
+count-cut v0 v1 l (suc nn) s = grind (arith, nat_tests, history-zero, next-step, count-same, count-dropped, count-cut v0 v1 l nn s)

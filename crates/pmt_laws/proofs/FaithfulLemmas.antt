@@ -1,12 +1,13 @@
 -- A selection with the fronts of the trace at a place is faithful there.
-use Rattle.std.proofs.Common.{◌≡◌, ℕ, zero, suc, ◌≤◌, nat_lt, ◌-◌, false, if◌then◌else◌, List, ◌∷◌, slice_get, refl, sym, ◌∙◌, ap, subst}
+use Rattle.std.proofs.Common.{◌≡◌, ℕ, zero, suc, ◌≤◌, nat_lt, ◌-◌, false, if◌then◌else◌, List, ◌∷◌, slice_get, refl, sym, ◌∙◌, ap, subst, arith}
 use Rattle.std.proofs.lemmas.Bool.{true≢false}
+use Rattle.std.proofs.lemmas.Bool.Decides.{nat_tests}
 use Rattle.pmt_model.specs.Machine.{Act, Stores, Asserts, count, writes, image_of, Image, Crash, Vectors}
 use Rattle.pmt_model.specs.Traces.{Recording, history}
 use Rattle.pmt_model.specs.Fronts.{front}
 use Rattle.pmt_model.specs.Boxes.{InBox, VectorsAreABox}
 use Rattle.pmt_model.specs.Selections.{always_stays, IsSelection, cut, matching_place, FrontsDecide}
-use Rattle.pmt_laws.proofs.CutLemmas.{IsNext, Keeps, Drops, Ended, next-step, history-zero, count-cut}
+use Rattle.pmt_laws.proofs.CutLemmas.{next-step, history-zero, count-cut}
 
 -- One more act brings equal bytes to equal bytes, where the counts of stores are equal.
 image-same : (persisted : ℕ → ℕ) (b : ℕ) (a : Act) (g h : List Act) → ((l : ℕ) → count l g ≡ count l h) → image_of persisted g b ≡ image_of persisted h b →
@@ -26,16 +27,7 @@ image-dropped persisted b a h e = refl
 pub image-cut : (T : Recording) (K : List ℕ) (persisted : ℕ → ℕ) (b n : ℕ) → IsSelection T K →
     image_of persisted (history (cut T K) (matching_place K n)) b ≡ image_of persisted (history T n) b
 image-cut T K persisted b zero s = ap (λ h. image_of persisted h b) (history-zero T K s)
-image-cut T K persisted b (suc n) s = go (next-step T K n s) (image-cut T K persisted b n s)
-  where
-    go : IsNext T K n → image_of persisted (history (cut T K) (matching_place K n)) b ≡ image_of persisted (history T n) b →
-        image_of persisted (history (cut T K) (matching_place K (suc n))) b ≡ image_of persisted (history T (suc n)) b
-    go (Keeps a is has whole part) e =
-        ap (λ h. image_of persisted h b) part ∙ image-same persisted b a (history (cut T K) (matching_place K n)) (history T n) (λ l. count-cut T K l n s) e
-        ∙ ap (λ h. image_of persisted h b) (sym whole)
-    go (Drops a is has free whole part) e =
-        ap (λ h. image_of persisted h b) part ∙ e ∙ sym (image-dropped persisted b a (history T n) free) ∙ ap (λ h. image_of persisted h b) (sym whole)
-    go (Ended whole part) e = ap (λ h. image_of persisted h b) part ∙ e ∙ ap (λ h. image_of persisted h b) (sym whole)
+image-cut v0 v1 persisted b (suc nn) s = grind (arith, nat_tests, history-zero, next-step, image-same, count-cut, image-dropped, image-cut v0 v1 persisted b nn s)
 
 -- The image names of the persisted stores only how many they are.
 pub image-persisted : (p q : ℕ → ℕ) (h : List Act) (b : ℕ) → ((l : ℕ) → p l ≡ q l) → image_of p h b ≡ image_of q h b

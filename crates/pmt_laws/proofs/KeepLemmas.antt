@@ -1,6 +1,7 @@
 -- The list of the events that are kept: there is one, it is a selection, and it has the fronts of the trace at each place.
 use Rattle.std.proofs.Common.{◌≡◌, ℕ, zero, suc, ◌-◌, ◌<◌, ◌≤◌, ◌⊎◌, ◌==◌, ◌&&◌, Bool, true, false, if◌then◌else◌, List, [], ◌∷◌, length, refl, sym, ◌∙◌, ap, ap₂, subst, inl, inr, ⊎_elim, arith}
 use Rattle.std.proofs.lemmas.Bool.{cases_eq, cases_lt, cond-false, ne_eqb}
+use Rattle.std.proofs.lemmas.Bool.Decides.{nat_tests}
 use Rattle.pmt_model.specs.Machine.{Act, Flushes, Clflushes, Fences, count}
 use Rattle.pmt_model.specs.Traces.{Recording, IsAct, history, count_at}
 use Rattle.pmt_model.specs.Fronts.{front, mark, front_at}
@@ -80,37 +81,16 @@ mark-kept t l a g h e le = le
 -- The marks of the cut are at most those of the trace.
 pub mark-cut-le : (T : Recording) (K : List ℕ) (t l n : ℕ) → IsSelection T K → mark t l (history (cut T K) (matching_place K n)) ≤ mark t l (history T n)
 mark-cut-le T K t l zero s = rw (history-zero T K s) (omega arith)
-mark-cut-le T K t l (suc n) s = go (next-step T K n s) (mark-cut-le T K t l n s)
-  where
-    go : IsNext T K n → mark t l (history (cut T K) (matching_place K n)) ≤ mark t l (history T n) →
-        mark t l (history (cut T K) (matching_place K (suc n))) ≤ mark t l (history T (suc n))
-    go (Keeps a is has whole part) le =
-        rw (whole, part) (mark-kept t l a (history (cut T K) (matching_place K n)) (history T n) (count-cut T K l n s) le)
-    go (Drops a is has free whole part) le =
-        let up : mark t l (history T n) ≤ mark t l (a ∷ history T n) = mark-grows t l a (history T n) in rw (whole, part) (omega arith)
-    go (Ended whole part) le = rw (whole, part) le
+mark-cut-le v0 v1 t l (suc nn) s = grind (arith, nat_tests, history-zero, next-step, mark-kept, count-cut, mark-grows, mark-cut-le v0 v1 t l nn s)
 
 -- One more act of both keeps a front at most the other.
 front-kept : (l : ℕ) (a : Act) (g h : List Act) → count l g ≡ count l h → ((t : ℕ) → mark t l g ≤ mark t l h) → front l g ≤ front l h → front l (a ∷ g) ≤ front l (a ∷ h)
-front-kept l (Clflushes k) g h e marks le = go (k == l)
-  where
-    go : (b : Bool) → (if b then count l g else front l g) ≤ (if b then count l h else front l h)
-    go true = omega arith
-    go false = le
-front-kept l (Fences u) g h e marks le = omega (arith, marks u)
-front-kept l a g h e marks le = le
+front-kept l a g h e marks le = grind (arith, nat_tests)
 
 -- The fronts of a cut are at most those of the trace, whatever is selected.
 pub cut-front-le : (T : Recording) (K : List ℕ) (l n : ℕ) → IsSelection T K → front_at (cut T K) l (matching_place K n) ≤ front_at T l n
 cut-front-le T K l zero s = rw (history-zero T K s) (omega arith)
-cut-front-le T K l (suc n) s = go (next-step T K n s) (cut-front-le T K l n s)
-  where
-    go : IsNext T K n → front_at (cut T K) l (matching_place K n) ≤ front_at T l n → front_at (cut T K) l (matching_place K (suc n)) ≤ front_at T l (suc n)
-    go (Keeps a is has whole part) le =
-        rw (whole, part) (front-kept l a (history (cut T K) (matching_place K n)) (history T n) (count-cut T K l n s) (λ t. mark-cut-le T K t l n s) le)
-    go (Drops a is has free whole part) le =
-        let up : front l (history T n) ≤ front l (a ∷ history T n) = front-grows l a (history T n) in rw (whole, part) (omega arith)
-    go (Ended whole part) le = rw (whole, part) le
+cut-front-le v0 v1 l (suc nn) s = grind (arith, nat_tests, history-zero, next-step, front-kept, count-cut, mark-cut-le, front-grows, cut-front-le v0 v1 l nn s)
 
 -- An event that changes a front is kept.
 pub raising-is-kept : (T : Recording) (l n : ℕ) (a : Act) → IsAct T (suc n) a → (front_at T l (suc n) ≡ front_at T l n → ⊥) → IsKept T (suc n)

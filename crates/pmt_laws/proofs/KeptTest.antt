@@ -2,15 +2,15 @@
 use Rattle.std.proofs.Common.{◌≡◌, ◌≢◌, ℕ, zero, suc, ◌+◌, ◌-◌, ◌<◌, ◌≤◌, ◌⊎◌, ◌==◌, ◌&&◌, ◌||◌, Bool, true, false, not, if◌then◌else◌, List, [], ◌∷◌, length, Option, Some, None, refl, sym, ◌∙◌, ap, subst, inl, inr, arith}
 use Rattle.std.specs.Prelude.{nat_lt}
 use Rattle.std.specs.Bool.{Decides}
-use Rattle.std.proofs.lemmas.Bool.{cases_eq, both_ways, and_parts, and_from, or_cases, or_left, or_right, ltb-true, lt-ltb, eqb-true, eq-eqb, ne_eqb, cond-false, false_from_ne_true}
-use Rattle.std.proofs.lemmas.Bool.Decides.{not_from_Decides, Decides-not, Decides-eqb}
+use Rattle.std.proofs.lemmas.Bool.{cases_eq, both_ways, and_parts, and_from, or_cases, or_left, or_right, eqb-true, eq-eqb, ne_eqb, cond-false}
+use Rattle.std.proofs.lemmas.Bool.Decides.{Decides-not, Decides-eqb, Decides-and, Decides-or, Decides-ltb, Decides-like, nat_tests}
 use Rattle.std.proofs.lemmas.Option.{none-some, same_Some}
 use Rattle.pmt_model.specs.declared.event.Event.{Event}
 use Rattle.pmt_model.specs.Values.{Layout}
-use Rattle.pmt_model.specs.Machine.{Act, Stores, Flushes, Clflushes, Fences, Asserts, count}
+use Rattle.pmt_model.specs.Machine.{Act, Stores, Flushes, Clflushes, Fences, count}
 use Rattle.pmt_model.specs.Traces.{Recording, act, event, IsAct, history, count_at}
 use Rattle.pmt_model.specs.Fronts.{front_at}
-use Rattle.pmt_model.specs.Selections.{IsRising, Has, always_stays}
+use Rattle.pmt_model.specs.Selections.{IsRising, Has}
 use Rattle.pmt_model.specs.Keeping.{IsKept, Stays, ByFence, ByFlush, ByClflush, IsKeep, KeepExists}
 use Rattle.pmt_laws.proofs.Histories.{act-within, front-le-count, front-mono}
 
@@ -47,61 +47,18 @@ is_flush_of t l a = false
 
 -- The test finds the fences of a thread.
 Decides-fence : (T : Recording) (t i : ℕ) → Decides (is_fence_of t (act_at T i)) (IsAct T i (Fences t))
-Decides-fence T t i = (λ e. act-there T i (Fences t) (go (act_at T i) e), λ is. ap (is_fence_of t) (there-act T i (Fences t) is) ∙ eq-eqb t t refl)
-  where
-    go : (o : Option Act) → is_fence_of t o ≡ true → o ≡ Some (Fences t)
-    go None e = cc
-    go (Some (Stores l w)) e = cc
-    go (Some (Flushes u l)) e = cc
-    go (Some (Clflushes l)) e = cc
-    go (Some (Fences u)) e = ap (λ n. Some (Fences n)) (eqb-true u t e)
-    go (Some Asserts) e = cc
+Decides-fence v0 t i = grind (arith, nat_tests, act-there, there-act, eq-eqb, eqb-true)
 
 -- The test finds the flushes of a line by a thread.
 Decides-flush : (T : Recording) (t l i : ℕ) → Decides (is_flush_of t l (act_at T i)) (IsAct T i (Flushes t l))
-Decides-flush T t l i = (
-  λ e. act-there T i (Flushes t l) (go (act_at T i) e),
-  λ is. ap (is_flush_of t l) (there-act T i (Flushes t l) is) ∙ and_from (t == t) (l == l) (eq-eqb t t refl) (eq-eqb l l refl),
-)
-  where
-    go : (o : Option Act) → is_flush_of t l o ≡ true → o ≡ Some (Flushes t l)
-    go None e = cc
-    go (Some (Stores k w)) e = cc
-    go (Some (Flushes u k)) e =
-        let both = and_parts (u == t) (k == l) e in
-        let thread : u ≡ t = eqb-true u t both.0 in
-        let line : k ≡ l = eqb-true k l both.1 in
-        cc
-    go (Some (Clflushes k)) e = cc
-    go (Some (Fences u)) e = cc
-    go (Some Asserts) e = cc
-
--- A first test, or where it fails a second one that must fail and a third one.
-abbrev first_or : Bool → Bool → Bool → Bool → Bool
-first_or f b g r = if f then b else (if g then false else r)
-
--- How the test may pass.
-first_or-cases : (f b g r : Bool) → first_or f b g r ≡ true → ((f ≡ true) × (b ≡ true)) ⊎ ((f ≡ false) × (g ≡ false) × (r ≡ true))
-first_or-cases true b g r e = inl (refl, e)
-first_or-cases false b true r e = cc
-first_or-cases false b false r e = inr (refl, refl, e)
-
--- It passes where the first test and what it asks for do.
-first_or-first : (f b g r : Bool) → f ≡ true → b ≡ true → first_or f b g r ≡ true
-first_or-first true b g r e h = h
-first_or-first false b g r e h = cc
-
--- It passes where the first two tests fail and the third passes.
-first_or-rest : (f b g r : Bool) → f ≡ false → g ≡ false → r ≡ true → first_or f b g r ≡ true
-first_or-rest false b false r e d h = h
-first_or-rest a b c r e d h = cc
+Decides-flush v0 t l i = grind (arith, nat_tests, act-there, there-act, and_from, eq-eqb, and_parts, eqb-true)
 
 -- Of the m events after event n, a fence of the thread comes before any flush of the line by it, and the front just before that
 -- fence is below c.
 abbrev is_needed : Recording → ℕ → ℕ → ℕ → ℕ → ℕ → Bool
 is_needed T t l c n zero = false
 is_needed T t l c n (suc m) =
-    first_or (is_fence_of t (act_at T (suc n))) (nat_lt (front_at T l n) c) (is_flush_of t l (act_at T (suc n))) (is_needed T t l c (suc n) m)
+    let fence = is_fence_of t (act_at T (suc n)) in (fence && nat_lt (front_at T l n) c) || (not fence && (not (is_flush_of t l (act_at T (suc n))) && is_needed T t l c (suc n) m))
 
 -- The fence that a flush of c stores after event n would be needed for.
 pub record IsNeed (T : Recording) (t l c n : ℕ) : Type 0 where
@@ -141,22 +98,6 @@ need-later T t l c n no_fence no_flush need = record {
         by_place (inl e) = let P : ℕ → Type 0 = λ j. IsAct T j a in none (subst P e at)
         by_place (inr apart) = rest (omega arith)
 
--- Where the test passes there is a need.
-is_needed-tells : (T : Recording) (t l c n m : ℕ) → is_needed T t l c n m ≡ true → IsNeed T t l c n
-is_needed-tells T t l c n zero e = cc
-is_needed-tells T t l c n (suc m) e =
-    go (is_needed-tells T t l c (suc n) m)
-    (first_or-cases (is_fence_of t (act_at T (suc n))) (nat_lt (front_at T l n) c) (is_flush_of t l (act_at T (suc n))) (is_needed T t l c (suc n) m) e)
-  where
-    go : (is_needed T t l c (suc n) m ≡ true → IsNeed T t l c (suc n)) →
-        ((is_fence_of t (act_at T (suc n)) ≡ true) × (nat_lt (front_at T l n) c ≡ true))
-        ⊎ ((is_fence_of t (act_at T (suc n)) ≡ false) × (is_flush_of t l (act_at T (suc n)) ≡ false) × (is_needed T t l c (suc n) m ≡ true)) →
-        IsNeed T t l c n
-    go more (inl now) = need-now T t l c n ((Decides-fence T t (suc n)).0 now.0) (ltb-true (front_at T l n) c now.1)
-    go more (inr later) =
-        need-later T t l c n (not_from_Decides (is_fence_of t (act_at T (suc n))) (Decides-fence T t (suc n)) later.0)
-        (not_from_Decides (is_flush_of t l (act_at T (suc n))) (Decides-flush T t l (suc n)) later.1) (more later.2)
-
 -- A need that is not met by the next event is one after it.
 need-rest : (T : Recording) (t l c n : ℕ) → ¬ IsAct T (suc n) (Fences t) → (need : IsNeed T t l c n) → IsNeed T t l c (suc n)
 need-rest T t l c n no_fence need = record {
@@ -173,12 +114,18 @@ need-rest T t l c n no_fence need = record {
     go (inr apart) = let after : n < need.fence = need.later in omega arith
 
 -- The next event meets a need, or leaves it.
-need-cases : (T : Recording) (t l c n : ℕ) → IsNeed T t l c n →
-    (IsAct T (suc n) (Fences t) × (front_at T l n < c)) ⊎ (¬ IsAct T (suc n) (Fences t) × ¬ IsAct T (suc n) (Flushes t l) × IsNeed T t l c (suc n))
+abbrev MeetsOrLeaves : Recording → ℕ → ℕ → ℕ → ℕ → Type 0
+MeetsOrLeaves T t l c n =
+    (IsAct T (suc n) (Fences t) × (front_at T l n < c)) ⊎ (¬ IsAct T (suc n) (Fences t) × (¬ IsAct T (suc n) (Flushes t l) × IsNeed T t l c (suc n)))
+
+need-from : (T : Recording) (t l c n : ℕ) → MeetsOrLeaves T t l c n → IsNeed T t l c n
+need-from T t l c n (inl now) = need-now T t l c n now.0 now.1
+need-from T t l c n (inr later) = need-later T t l c n later.0 later.1.0 later.1.1
+
+need-cases : (T : Recording) (t l c n : ℕ) → IsNeed T t l c n → MeetsOrLeaves T t l c n
 need-cases T t l c n need = go (cases_eq need.fence (suc n))
   where
-    go : (need.fence ≡ suc n) ⊎ (need.fence ≡ suc n → ⊥) →
-        (IsAct T (suc n) (Fences t) × (front_at T l n < c)) ⊎ (¬ IsAct T (suc n) (Fences t) × ¬ IsAct T (suc n) (Flushes t l) × IsNeed T t l c (suc n))
+    go : (need.fence ≡ suc n) ⊎ (need.fence ≡ suc n → ⊥) → MeetsOrLeaves T t l c n
     go (inl e) =
         let before : need.fence - 1 ≡ n = omega (arith, e) in
         let P : ℕ → Type 0 = λ j. IsAct T j (Fences t) in
@@ -187,27 +134,20 @@ need-cases T t l c n need = go (cases_eq need.fence (suc n))
     go (inr apart) =
         let after : n < need.fence = need.later in
         let no_fence = need.next_fence (suc n) (omega arith) (omega arith) in
-        inr (no_fence, need.last_flush (suc n) (omega arith) (omega arith), need-rest T t l c n no_fence need)
+        inr (no_fence, (need.last_flush (suc n) (omega arith) (omega arith), need-rest T t l c n no_fence need))
 
--- Where there is a need, the test of all later events passes.
-tells-is_needed : (T : Recording) (t l c n m : ℕ) → length T.events ≤ n + m → IsNeed T t l c n → is_needed T t l c n m ≡ true
-tells-is_needed T t l c n zero all need =
-    let within : need.fence ≤ length T.events = (act-within T need.fence (Fences t) need.is_fence).1 in
-    let after : n < need.fence = need.later in
-    absurd (omega arith)
-tells-is_needed T t l c n (suc m) all need = go (λ more. tells-is_needed T t l c (suc n) m (omega arith) more) (need-cases T t l c n need)
-  where
-    go : (IsNeed T t l c (suc n) → is_needed T t l c (suc n) m ≡ true) →
-        (IsAct T (suc n) (Fences t) × (front_at T l n < c)) ⊎ (¬ IsAct T (suc n) (Fences t) × ¬ IsAct T (suc n) (Flushes t l) × IsNeed T t l c (suc n)) →
-        is_needed T t l c n (suc m) ≡ true
-    go rest (inl now) =
-        first_or-first (is_fence_of t (act_at T (suc n))) (nat_lt (front_at T l n) c) (is_flush_of t l (act_at T (suc n))) (is_needed T t l c (suc n) m)
-        ((Decides-fence T t (suc n)).1 now.0) (lt-ltb (front_at T l n) c now.1)
-    go rest (inr later) =
-        first_or-rest (is_fence_of t (act_at T (suc n))) (nat_lt (front_at T l n) c) (is_flush_of t l (act_at T (suc n))) (is_needed T t l c (suc n) m)
-        (false_from_ne_true (is_fence_of t (act_at T (suc n))) (λ e. later.0 ((Decides-fence T t (suc n)).0 e)))
-        (false_from_ne_true (is_flush_of t l (act_at T (suc n))) (λ e. later.1 ((Decides-flush T t l (suc n)).0 e)))
-        (rest later.2)
+-- The test of all later events finds a need.
+Decides-needed : (T : Recording) (t l c n m : ℕ) → length T.events ≤ n + m → Decides (is_needed T t l c n m) (IsNeed T t l c n)
+Decides-needed T t l c n zero all = (λ e. cc, λ need. absurd (omega (arith, need.later, (act-within T need.fence (Fences t) need.is_fence).1)))
+Decides-needed T t l c n (suc m) all =
+    let fence = is_fence_of t (act_at T (suc n)) in
+    let flush = is_flush_of t l (act_at T (suc n)) in
+    let more = is_needed T t l c (suc n) m in
+    let rest = Decides-and (not flush) more (Decides-not flush (Decides-flush T t l (suc n))) (Decides-needed T t l c (suc n) m (omega arith)) in
+    Decides-like (is_needed T t l c n (suc m)) (need-from T t l c n) (need-cases T t l c n)
+    (Decides-or (fence && nat_lt (front_at T l n) c) (not fence && (not flush && more))
+    (Decides-and fence (nat_lt (front_at T l n) c) (Decides-fence T t (suc n)) (Decides-ltb (front_at T l n) c))
+    (Decides-and (not fence) (not flush && more) (Decides-not fence (Decides-fence T t (suc n))) rest))
 
 -- The front of the line differs before and after event i.
 abbrev differs : Recording → ℕ → ℕ → Bool
@@ -226,12 +166,7 @@ Decides-differs T l i = Decides-not (front_at T l i == front_at T l (i - 1)) (De
 -- Where the test passes some line's front differs.
 some_differs-tells : (T : Recording) (i : ℕ) (h : List Act) → some_differs T i h ≡ true → (l : ℕ) × (front_at T l i ≢ front_at T l (i - 1))
 some_differs-tells T i [] e = cc
-some_differs-tells T i (Stores l w ∷ h) e = go (some_differs-tells T i h) (or_cases (differs T l i) (some_differs T i h) e)
-  where
-    go : (some_differs T i h ≡ true → (k : ℕ) × (front_at T k i ≢ front_at T k (i - 1))) →
-        (differs T l i ≡ true) ⊎ (some_differs T i h ≡ true) → (k : ℕ) × (front_at T k i ≢ front_at T k (i - 1))
-    go rest (inl d) = (l, (Decides-differs T l i).0 d)
-    go rest (inr d) = rest d
+some_differs-tells T i (Stores l w ∷ h) e = grind (arith, nat_tests, or_cases, Decides-differs, some_differs-tells T i h)
 some_differs-tells T i (a ∷ h) e = some_differs-tells T i h e
 
 -- A stored line whose front differs is found.
@@ -269,7 +204,7 @@ differs-stored T l i apart =
 keeps_act-tells : (T : Recording) (i : ℕ) (o : Option Act) → act_at T i ≡ o → keeps_act T i o ≡ true → IsKept T i
 keeps_act-tells T i None is e = cc
 keeps_act-tells T i (Some (Flushes t l)) is e =
-    let need = is_needed-tells T t l (count_at T l i) i (length T.events) e in
+    let need = (Decides-needed T t l (count_at T l i) i (length T.events) (omega arith)).0 e in
     ByFlush
     (record {
       thread = t;
@@ -291,20 +226,13 @@ keeps_act-tells T i (Some a) is e = Stays a (act-there T i a is) refl
 
 -- What is kept passes the test.
 tells-is_kept : (T : Recording) (i : ℕ) → IsKept T i → is_kept T i ≡ true
-tells-is_kept T i (Stays a is stays) = ap (keeps_act T i) (there-act T i a is) ∙ go a stays
-  where
-    go : (a : Act) → always_stays a ≡ true → keeps_act T i (Some a) ≡ true
-    go (Stores l w) e = refl
-    go (Flushes t l) e = cc
-    go (Clflushes l) e = cc
-    go (Fences t) e = cc
-    go Asserts e = refl
+tells-is_kept T i (Stays a is stays) = grind (arith, nat_tests, there-act)
 tells-is_kept T i (ByFence u) =
     ap (keeps_act T i) (there-act T i (Fences u.thread) u.is_fence)
     ∙ tells-some_differs T u.line i (history T i) (differs-stored T u.line i u.raises) u.raises
 tells-is_kept T i (ByFlush u) =
     ap (keeps_act T i) (there-act T i (Flushes u.thread u.line) u.is_flush)
-    ∙ tells-is_needed T u.thread u.line (count_at T u.line i) i (length T.events) (omega arith)
+    ∙ (Decides-needed T u.thread u.line (count_at T u.line i) i (length T.events) (omega arith)).1
     (record { fence = u.fence; later = u.later; is_fence = u.is_fence; next_fence = u.next_fence; last_flush = u.last_flush; needed = u.needed })
 tells-is_kept T i (ByClflush u) = ap (keeps_act T i) (there-act T i (Clflushes u.line) u.is_clflush) ∙ (Decides-differs T u.line i).1 u.raises
 

@@ -1,6 +1,7 @@
 -- The last flush of a line by a thread.
-use Rattle.std.proofs.Common.{◌≡◌, ℕ, zero, suc, ◌<◌, ◌≤◌, ◌⊎◌, ◌==◌, ◌&&◌, true, false, List, ◌∷◌, length, refl, sym, ◌∙◌, ap, ap₂, subst, inl, inr, ⊎_elim, arith}
+use Rattle.std.proofs.Common.{◌≡◌, ℕ, zero, suc, ◌<◌, ◌≤◌, ◌⊎◌, List, ◌∷◌, length, refl, sym, ◌∙◌, ap, subst, inl, inr, ⊎_elim, arith}
 use Rattle.std.proofs.lemmas.Bool.{cases_eq, cases_lt, cases_Bool, eqb-true, and_parts, cond-false}
+use Rattle.std.proofs.lemmas.Bool.Decides.{nat_tests}
 use Rattle.pmt_model.specs.Machine.{Act, Flushes, count}
 use Rattle.pmt_model.specs.Traces.{Recording, IsAct, history, count_at}
 use Rattle.pmt_model.specs.Fronts.{mark}
@@ -16,22 +17,11 @@ pub record IsLastFlush (T : Recording) (t l n i : ℕ) : Type 0 where
 
 -- An act is a flush of the line by the thread, or not.
 flush-dec : (t l : ℕ) (a : Act) → (a ≡ Flushes t l) ⊎ (a ≡ Flushes t l → ⊥)
-flush-dec t l (Flushes u k) = go (cases_eq u t) (cases_eq k l)
-  where
-    go : (u ≡ t) ⊎ (u ≡ t → ⊥) → (k ≡ l) ⊎ (k ≡ l → ⊥) → (Flushes u k ≡ Flushes t l) ⊎ (Flushes u k ≡ Flushes t l → ⊥)
-    go (inl x) (inl y) = inl (cc)
-    go (inl x) (inr y) = inr (λ e. y (cc))
-    go (inr x) y = inr (λ e. x (cc))
-flush-dec t l a = inr (λ e. cc)
+flush-dec t l a = grind (arith, nat_tests, cases_eq)
 
 -- Any other act leaves the mark.
 mark-other : (t l : ℕ) (a : Act) (h : List Act) → (a ≡ Flushes t l → ⊥) → mark t l (a ∷ h) ≡ mark t l h
-mark-other t l (Flushes u k) h apart = go (cases_Bool ((u == t) && (k == l)))
-  where
-    go : ((u == t) && (k == l)) ≡ true ⊎ ((u == t) && (k == l)) ≡ false → mark t l (Flushes u k ∷ h) ≡ mark t l h
-    go (inl e) = let both = and_parts (u == t) (k == l) e in absurd (apart (ap₂ Flushes (eqb-true u t both.0) (eqb-true k l both.1)))
-    go (inr e) = cond-false ((u == t) && (k == l)) (count l h) (mark t l h) e
-mark-other t l a h apart = refl
+mark-other t l a h apart = grind (arith, nat_tests, cases_Bool, and_parts, eqb-true, cond-false)
 
 -- The mark counts the stores before the last flush, if there is one.
 pub last-flush : (T : Recording) (t l n : ℕ) → (mark t l (history T n) ≡ 0) ⊎ ((i : ℕ) × IsLastFlush T t l n i)

@@ -2,6 +2,7 @@
 use Rattle.std.proofs.Common.{◌≡◌, ℕ, zero, suc, ◌+◌, ◌-◌, ◌<◌, ◌≤◌, ◌==◌, List, [], ◌∷◌, ◌++◌, refl, sym, ap, subst, ◌∙◌, le_trans, arith}
 use Rattle.std.specs.List.{AllByRecursion}
 use Rattle.std.proofs.lemmas.Bool.{cond_both}
+use Rattle.std.proofs.lemmas.Bool.Decides.{nat_tests}
 use Rattle.pmt_model.specs.Machine.{Act, Stores, Flushes, Clflushes, Fences, Outstanding, State, Leads, Stays, Acts, Persists, IsMoment, count, start, after, after_persist}
 use Rattle.pmt_model.specs.Boxes.{InBox}
 use Rattle.pmt_laws.proofs.Histories.{count-grows}
@@ -41,12 +42,7 @@ persisting_none s = record { path = Stays; is_history = refl; is_outstanding = r
 
 -- persist steps after persist steps
 persisting-trans : (a b c : State) → Persisting a b → Persisting b c → Persisting a c
-persisting-trans a b c first second = record {
-  path = leads-trans a b c first.path second.path;
-  is_history = second.is_history ∙ first.is_history;
-  is_outstanding = second.is_outstanding ∙ first.is_outstanding;
-  grows = λ l. le_trans (first.grows l) (second.grows l);
-}
+persisting-trans a b c first second = grind (arith, nat_tests, leads-trans)
 
 -- one persist step
 persisting_step : (s : State) (l : ℕ) → s.persisted l < count l s.history → Persisting s (after_persist s l)

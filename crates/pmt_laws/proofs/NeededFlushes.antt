@@ -1,10 +1,11 @@
 -- A useful flush, by its thread and line, and the fence that needs it.
-use Rattle.std.proofs.Common.{◌≡◌, ℕ, zero, suc, ◌-◌, ◌<◌, List, sym, ap, subst₂, ◌∙◌, true≢false, arith}
-use Rattle.pmt_model.specs.Machine.{Flushes, Clflushes, Fences}
+use Rattle.std.proofs.Common.{ℕ, zero, suc, ◌-◌, ◌<◌, List, arith}
+use Rattle.std.proofs.lemmas.Bool.Decides.{nat_tests}
+use Rattle.pmt_model.specs.Machine.{Flushes, Fences}
 use Rattle.pmt_model.specs.Traces.{Recording, IsAct, count_at}
 use Rattle.pmt_model.specs.Fronts.{front_at}
-use Rattle.pmt_model.specs.Selections.{Has, always_stays}
-use Rattle.pmt_model.specs.Keeping.{IsUsefulFlush, IsKept, Stays, ByFence, ByFlush, ByClflush, IsKeep}
+use Rattle.pmt_model.specs.Selections.{Has}
+use Rattle.pmt_model.specs.Keeping.{IsUsefulFlush, IsKept, IsKeep}
 use Rattle.pmt_laws.proofs.Histories.{act-unique}
 use Rattle.pmt_laws.proofs.KeepLemmas.{front-at_fence, raising-is-kept}
 
@@ -22,15 +23,7 @@ pub record IsNeededFlush (T : Recording) (t l i : ℕ) : Type 0 where
 needed-by : (T : Recording) (t l i j : ℕ) → IsAct T i (Flushes t l) → IsAct T j (Fences t) → i < j → ((k : ℕ) → i < k → k < j → ¬ IsAct T k (Fences t)) →
     ((k : ℕ) → i < k → k < j → ¬ IsAct T k (Flushes t l)) → front_at T l (j - 1) < count_at T l i → IsNeededFlush T t l i
 needed-by T t l i zero flush fence later next last needed = absurd (omega arith)
-needed-by T t l i (suc m) flush fence later next last needed = record {
-  before = m;
-  is_flush = flush;
-  is_fence = fence;
-  later = later;
-  next_fence = next;
-  last_flush = last;
-  needed = let before : suc m - 1 ≡ m = omega arith in rw before at needed;
-}
+needed-by T t l i (suc m) flush fence later next last needed = grind (arith, nat_tests)
 
 -- a useful flush is needed
 pub useful-needed : (T : Recording) (i : ℕ) (u : IsUsefulFlush T i) → IsNeededFlush T u.thread u.line i
@@ -38,14 +31,7 @@ useful-needed T i u = needed-by T u.thread u.line i u.fence u.is_flush u.is_fenc
 
 -- a kept flush is needed
 pub kept-needed : (T : Recording) (t l i : ℕ) → IsKept T i → IsAct T i (Flushes t l) → IsNeededFlush T t l i
-kept-needed T t l i (Stays a is stays) flush = absurd (true≢false (sym stays ∙ ap always_stays (act-unique T i a (Flushes t l) is flush)))
-kept-needed T t l i (ByFence u) flush = let same = act-unique T i (Fences u.thread) (Flushes t l) u.is_fence flush in cc
-kept-needed T t l i (ByFlush u) flush =
-    let same = act-unique T i (Flushes u.thread u.line) (Flushes t l) u.is_flush flush in
-    let thread : u.thread ≡ t = cc in
-    let line : u.line ≡ l = cc in
-    subst₂ (λ v k. IsNeededFlush T v k i) thread line (useful-needed T i u)
-kept-needed T t l i (ByClflush u) flush = let same = act-unique T i (Clflushes u.line) (Flushes t l) u.is_clflush flush in cc
+kept-needed v0 t l i v4 flush = grind (arith, nat_tests, act-unique, useful-needed)
 
 -- the fence that needs a flush raises the front of its line
 pub needed-raises : (T : Recording) (t l i : ℕ) (f : IsNeededFlush T t l i) → front_at T l f.before < front_at T l (suc f.before)

@@ -1,7 +1,8 @@
 -- What is outstanding after a history, against its marks and counts.
-use Rattle.std.proofs.Common.{◌≡◌, ℕ, ◌≤◌, List, [], ◌∷◌, ◌&&◌, ◌==◌, refl, subst, eq-eqb, eqb-true, le_trans, arith}
+use Rattle.std.proofs.Common.{◌≡◌, ℕ, ◌≤◌, List, [], ◌∷◌, ◌&&◌, ◌==◌, refl, subst, eq-eqb, le_trans, arith}
 use Rattle.std.specs.List.{AllByRecursion}
 use Rattle.std.proofs.lemmas.Bool.{cond_both, and_parts, and_from, cond-true}
+use Rattle.std.proofs.lemmas.Bool.Decides.{nat_tests}
 use Rattle.pmt_model.specs.Machine.{Act, Flushes, Outstanding, count}
 use Rattle.pmt_model.specs.Fronts.{mark}
 use Rattle.pmt_laws.proofs.Histories.{mark-le-count}
@@ -23,12 +24,7 @@ mark-flush t l h = cond-true ((t == t) && (l == l)) (count l h) (mark t l h) (an
 -- a fence waits for every mark of its thread
 pub mark-le_owed : (t l : ℕ) (bound : ℕ → ℕ) (h : List Act) → OwesAtMost t bound (owing h) → mark t l h ≤ bound l
 mark-le_owed t l bound [] owed = omega arith
-mark-le_owed t l bound (Flushes u k ∷ h) owed =
-    cond_both ((u == t) && (k == l)) (count l h) (mark t l h) (λ x. x ≤ bound l)
-    (λ both.
-    let parts = and_parts (u == t) (k == l) both in
-    subst (λ j. count j h ≤ bound j) (eqb-true k l parts.1) (owed.0 (eqb-true u t parts.0)))
-    (λ other. mark-le_owed t l bound h owed.1)
+mark-le_owed t l bound (Flushes u k ∷ h) owed = grind (arith, nat_tests, cond_both, and_parts, mark-le_owed t l bound h owed.1)
 mark-le_owed t l bound (a ∷ h) owed = mark-le_owed t l bound h owed
 
 -- an older mark of the thread is at most the newer one

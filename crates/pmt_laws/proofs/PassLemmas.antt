@@ -1,12 +1,13 @@
 -- The open flushes of a thread, and what its fence makes of them.
 use Rattle.std.proofs.Common.{◌≡◌, ◌≢◌, ℕ, zero, suc, ◌-◌, ◌<◌, ◌≤◌, ◌⊎◌, inl, inr, Bool, true, false, List, [], ◌∷◌, ◌++◌, length, map, refl, sym, ap, subst, ◌∙◌, true≢false, arith}
-use Rattle.std.specs.Prelude.{◌==◌, ◌&&◌, if◌then◌else◌, max}
+use Rattle.std.specs.Prelude.{◌==◌, if◌then◌else◌, max}
 use Rattle.std.specs.List.{AllByRecursion}
 use Rattle.std.proofs.lemmas.Bool.{cases_lt, eqb-true, eq-eqb}
 use Rattle.std.proofs.lemmas.List.{map-append}
-use Rattle.pmt_model.specs.Machine.{Act, Stores, Flushes, Clflushes, Fences, count}
+use Rattle.std.proofs.lemmas.Bool.Decides.{nat_tests}
+use Rattle.pmt_model.specs.Machine.{Act, Flushes, Clflushes, Fences, count}
 use Rattle.pmt_model.specs.Traces.{Recording, IsAct, history, count_at}
-use Rattle.pmt_model.specs.Fronts.{mark, front, front_at}
+use Rattle.pmt_model.specs.Fronts.{front, front_at}
 use Rattle.pmt_model.specs.Selections.{always_stays, IsRising, Has}
 use Rattle.pmt_model.specs.Keeping.{IsKept, Stays, ByFence, ByFlush, ByClflush}
 use Rattle.pmt_laws.proofs.Histories.{act-within, act-unique, history-act, history-step, length-history, mark-le-count, front-grows, count-mono}
@@ -18,79 +19,18 @@ use Rattle.pmt_laws.specs.Passing.{Flushed, open_flushes, most, FenceRaises, Fen
 
 -- one flush more
 most-push : (l : ℕ) (flushes : List Flushed) (f : Flushed) → most l (flushes ++ f ∷ []) ≡ (if f.line == l then max (most l flushes) f.stores else most l flushes)
-most-push l [] f = go (f.line == l)
-  where
-    go : (b : Bool) → (if b then max f.stores 0 else 0) ≡ (if b then max 0 f.stores else 0)
-    go true = omega arith
-    go false = refl
-most-push l (x ∷ flushes) f = rw (most-push l flushes f) (go (x.line == l) (f.line == l) (most l flushes))
-  where
-    go : (a b : Bool) (m : ℕ) → (if a then max x.stores (if b then max m f.stores else m) else (if b then max m f.stores else m))
-        ≡ (if b then max (if a then max x.stores m else m) f.stores else (if a then max x.stores m else m))
-    go true true m = omega arith
-    go true false m = refl
-    go false true m = refl
-    go false false m = refl
+most-push l [] f = grind (arith, nat_tests)
+most-push l (hd ∷ tl) f = grind (arith, nat_tests, most-push l tl f)
 
 -- open flushes cover no more than there is
 most-le-count : (t l : ℕ) (h : List Act) → most l (open_flushes t h) ≤ count l h
 most-le-count t l [] = omega arith
-most-le-count t l (Stores k w ∷ h) = go (k == l) (most-le-count t l h)
-  where
-    go : (b : Bool) → most l (open_flushes t h) ≤ count l h → most l (open_flushes t h) ≤ (if b then suc (count l h) else count l h)
-    go true le = omega arith
-    go false le = le
-most-le-count t l (Flushes u k ∷ h) = go (u == t) (most-le-count t l h)
-  where
-    flush : Flushed
-    flush = record { number = suc (length h); line = k; stores = count k h }
-
-    pushed : (b : Bool) → (k == l) ≡ b → most l (open_flushes t h) ≤ count l h → (if b then max (most l (open_flushes t h)) (count k h) else most l (open_flushes t h)) ≤ count l h
-    pushed true e le = let same : count k h ≡ count l h = ap (λ j. count j h) (eqb-true k l e) in omega arith
-    pushed false e le = le
-
-    go : (b : Bool) → most l (open_flushes t h) ≤ count l h → most l (if b then open_flushes t h ++ flush ∷ [] else open_flushes t h) ≤ count l h
-    go true le = rw (most-push l (open_flushes t h) flush) (pushed (k == l) refl le)
-    go false le = le
-most-le-count t l (Fences u ∷ h) = go (u == t) (most-le-count t l h)
-  where
-    go : (b : Bool) → most l (open_flushes t h) ≤ count l h → most l (if b then [] else open_flushes t h) ≤ count l h
-    go true le = omega arith
-    go false le = le
-most-le-count t l (a ∷ h) = most-le-count t l h
+most-le-count t l (hd ∷ tl) = grind (arith, nat_tests, eqb-true, most-push, most-le-count t l tl)
 
 -- what the thread's last flush covers is open, or in the front
 pub fence_raises : FenceRaises
 fence_raises t l [] = refl
-fence_raises t l (Flushes u k ∷ h) = go (u == t) (fence_raises t l h)
-  where
-    flush : Flushed
-    flush = record { number = suc (length h); line = k; stores = count k h }
-
-    pushed : (b : Bool) → (k == l) ≡ b → max (front l h) (mark t l h) ≡ max (front l h) (most l (open_flushes t h)) →
-        max (front l h) (if b then count l h else mark t l h) ≡ max (front l h) (if b then max (most l (open_flushes t h)) (count k h) else most l (open_flushes t h))
-    pushed true e same =
-        let line : count k h ≡ count l h = ap (λ j. count j h) (eqb-true k l e) in
-        omega (arith, most-le-count t l h)
-    pushed false e same = same
-
-    go : (b : Bool) → max (front l h) (mark t l h) ≡ max (front l h) (most l (open_flushes t h)) →
-        max (front l h) (if b && (k == l) then count l h else mark t l h) ≡ max (front l h) (most l (if b then open_flushes t h ++ flush ∷ [] else open_flushes t h))
-    go true same = rw (most-push l (open_flushes t h) flush) (pushed (k == l) refl same)
-    go false same = same
-fence_raises t l (Clflushes k ∷ h) = go (k == l) (fence_raises t l h)
-  where
-    go : (b : Bool) → max (front l h) (mark t l h) ≡ max (front l h) (most l (open_flushes t h)) →
-        max (if b then count l h else front l h) (mark t l h) ≡ max (if b then count l h else front l h) (most l (open_flushes t h))
-    go true same = omega (arith, mark-le-count t l h, most-le-count t l h)
-    go false same = same
-fence_raises t l (Fences u ∷ h) = go (u == t) refl (fence_raises t l h)
-  where
-    go : (b : Bool) → (u == t) ≡ b → max (front l h) (mark t l h) ≡ max (front l h) (most l (open_flushes t h)) →
-        max (max (front l h) (mark u l h)) (mark t l h) ≡ max (max (front l h) (mark u l h)) (most l (if b then [] else open_flushes t h))
-    go true e same = let thread : mark u l h ≡ mark t l h = ap (λ v. mark v l h) (eqb-true u t e) in omega arith
-    go false e same = omega arith
-fence_raises t l (a ∷ h) = fence_raises t l h
+fence_raises t l (hd ∷ tl) = grind (arith, nat_tests, eqb-true, most-le-count, most-push, mark-le-count, fence_raises t l tl)
 
 -- ---- Which events the open flushes are
 
@@ -186,18 +126,7 @@ open-more T t l n flushes is open_ = record {
 
 -- a fence by the thread
 open-none : (T : Recording) (t n : ℕ) → IsAct T (suc n) (Fences t) → AreOpen T t (suc n) []
-open-none T t n fence = record {
-  each = tt;
-  all = λ k l is by_now unfenced. go k l is by_now unfenced (cases_lt k (suc n));
-  rising = tt;
-}
-  where
-    go : (k l : ℕ) → IsAct T k (Flushes t l) → k ≤ suc n → ((j : ℕ) → k < j → j ≤ suc n → ¬ IsAct T j (Fences t)) → (k < suc n) ⊎ (suc n ≤ k) → ⊥
-    go k l is by_now unfenced (inl early) = unfenced (suc n) early (omega arith) fence
-    go k l is by_now unfenced (inr late) =
-        let e : k ≡ suc n = omega arith in
-        let same = act-unique T (suc n) (Flushes t l) (Fences t) (subst (λ i. IsAct T i (Flushes t l)) e is) fence in
-        cc
+open-none v0 t n fence = grind (arith, nat_tests, cases_lt, act-unique)
 
 -- the recursion gives the open flushes
 pub are_open : (T : Recording) (t n : ℕ) → AreOpen T t n (open_flushes t (history T n))

@@ -2,6 +2,7 @@
 use Rattle.std.proofs.Common.{◌≡◌, ◌≢◌, ℕ, zero, suc, ◌-◌, ◌<◌, ◌≤◌, ◌⊎◌, inl, inr, ◌==◌, ◌&&◌, Bool, true, false, max, List, ◌∷◌, length, Option, Some, None, refl, sym, ap, subst, ◌∙◌, arith, eqb-true, eq-eqb, unwrap_or}
 use Rattle.std.proofs.lemmas.Bool.{true≢false, cases_order, cases_lt, eqb-false, and_parts, and_from}
 use Rattle.std.specs.Prelude.{if◌then◌else◌}
+use Rattle.std.proofs.lemmas.Bool.Decides.{nat_tests}
 use Rattle.pmt_model.specs.Values.{Written}
 use Rattle.pmt_model.specs.Machine.{Act, Stores, Flushes, Clflushes, Fences, count}
 use Rattle.pmt_model.specs.Traces.{Recording, IsAct, history, count_at}
@@ -154,14 +155,7 @@ flush-mark T t l n u k true same is before =
     let e : Flushes u k ≡ Flushes t l = cc in
     let P : Act → Type 0 = λ a. IsAct T (suc n) a in
     mark-here T t l n (subst P e is)
-flush-mark T t l n u k false other is before =
-    later-mark T t l n (open_mark t l (history T n))
-    (other-act T (suc n) (Flushes u k) (Flushes t l) is (λ e.
-    let same_thread : u ≡ t = cc in
-    let same_line : k ≡ l = cc in
-    true≢false (sym (and_from (u == t) (k == l) (eq-eqb u t same_thread) (eq-eqb k l same_line)) ∙ other)))
-    (other-act T (suc n) (Flushes u k) (Fences t) is (λ e. cc))
-    before
+flush-mark T t l n u k false other is before = grind (arith, nat_tests, later-mark, other-act, true≢false, and_from)
 
 -- the open mark after a fence
 fence-mark : (T : Recording) (t l n u : ℕ) (v : Bool) → (u == t) ≡ v → IsAct T (suc n) (Fences u) → OpenFlush T t l n (open_mark t l (history T n)) → OpenFlush T t l (suc n) (if v then None else open_mark t l (history T n))

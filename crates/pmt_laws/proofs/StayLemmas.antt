@@ -1,10 +1,11 @@
 -- In the kept selection the last stores and the fronts up to them are those of the trace, so the verdicts are too.
-use Rattle.std.proofs.Common.{◌≡◌, ℕ, zero, suc, ◌<◌, ◌≤◌, true, false, if◌then◌else◌, List, [], ◌∷◌, length, filter_map, Option, Some, IfSome, inl, inr, refl, sym, ◌∙◌, ap, subst, le_trans, le_of_eq, true≢false, arith}
+use Rattle.std.proofs.Common.{◌≡◌, ℕ, zero, suc, ◌<◌, ◌≤◌, false, List, [], ◌∷◌, length, filter_map, Some, IfSome, inl, inr, refl, sym, ◌∙◌, ap, subst, le_trans, le_of_eq, true≢false, arith}
 use Rattle.std.proofs.lemmas.Bool.{le-leb}
 use Rattle.std.proofs.lemmas.Option.{IfSome_then, none-some}
+use Rattle.std.proofs.lemmas.Bool.Decides.{nat_tests}
 use Rattle.pmt_model.specs.Values.{Span}
 use Rattle.pmt_model.specs.declared.event.Event.{Event}
-use Rattle.pmt_model.specs.Machine.{Act, Stores, count, writes}
+use Rattle.pmt_model.specs.Machine.{Act, Stores, count}
 use Rattle.pmt_model.specs.Traces.{Recording, event, IsAct, history, count_at}
 use Rattle.pmt_model.specs.Fronts.{front, front_at}
 use Rattle.pmt_model.specs.Selections.{Has, always_stays, IsSelection, cut, matching_place}
@@ -21,13 +22,7 @@ use Rattle.pmt_laws.proofs.NeverLemmas.{never_persisted_by_fronts}
 last_store-same :
     (b : ℕ) (a : Act) (g h : List Act) → ((l : ℕ) → count l g ≡ count l h) → last_store b g ≡ last_store b h →
     last_store b (a ∷ g) ≡ last_store b (a ∷ h)
-last_store-same b (Stores k w) g h c e =
-    let stored : ℕ → Option Placed = λ n. Some (record { line = k; rank = suc n }) in
-    elim (writes w b) as (λ t. (if t then stored (count k g) else last_store b g) ≡ (if t then stored (count k h) else last_store b h)) [
-      | true ↦ ap stored (c k)
-      | false ↦ e
-    ]
-last_store-same b a g h c e = e
+last_store-same b a g h c e = grind (arith, nat_tests)
 
 -- An act that need not stay is no last store.
 last_store-dropped : (b : ℕ) (a : Act) (h : List Act) → always_stays a ≡ false → last_store b (a ∷ h) ≡ last_store b h
@@ -37,26 +32,13 @@ last_store-dropped b a h free = refl
 -- A selection has the last stores of the trace at matching places.
 pub last_store-cut : (T : Recording) (K : List ℕ) (b n : ℕ) → IsSelection T K → last_store b (history (cut T K) (matching_place K n)) ≡ last_store b (history T n)
 last_store-cut T K b zero s = ap (last_store b) (history-zero T K s)
-last_store-cut T K b (suc n) s = go (next-step T K n s) (last_store-cut T K b n s)
-  where
-    go :
-        IsNext T K n → last_store b (history (cut T K) (matching_place K n)) ≡ last_store b (history T n) →
-        last_store b (history (cut T K) (matching_place K (suc n))) ≡ last_store b (history T (suc n))
-    go (Keeps a is has whole part) e =
-        ap (last_store b) part ∙ last_store-same b a (history (cut T K) (matching_place K n)) (history T n) (λ l. count-cut T K l n s) e ∙ ap (last_store b) (sym whole)
-    go (Drops a is has free whole part) e = ap (last_store b) part ∙ e ∙ sym (last_store-dropped b a (history T n) free) ∙ ap (last_store b) (sym whole)
-    go (Ended whole part) e = ap (last_store b) part ∙ e ∙ ap (last_store b) (sym whole)
+last_store-cut v0 v1 b (suc nn) s = grind (arith, nat_tests, history-zero, next-step, last_store-same, count-cut, last_store-dropped, last_store-cut v0 v1 b nn s)
 
 -- One more act brings equal fronts up to a last store to equal ones.
 up_to-same :
     (l b : ℕ) (a : Act) (g h : List Act) → front l g ≡ front l h → front l (up_to_last b g) ≡ front l (up_to_last b h) →
     front l (up_to_last b (a ∷ g)) ≡ front l (up_to_last b (a ∷ h))
-up_to-same l b (Stores k w) g h f e =
-    elim (writes w b) as (λ t. front l (if t then Stores k w ∷ g else up_to_last b g) ≡ front l (if t then Stores k w ∷ h else up_to_last b h)) [
-      | true ↦ f
-      | false ↦ e
-    ]
-up_to-same l b a g h f e = e
+up_to-same l b a g h f e = grind (arith, nat_tests)
 
 -- An act that need not stay is not among those up to a last store.
 up_to-dropped : (l b : ℕ) (a : Act) (h : List Act) → always_stays a ≡ false → front l (up_to_last b (a ∷ h)) ≡ front l (up_to_last b h)

@@ -1,7 +1,8 @@
 -- The whole analysis of a small trace.
-use Rattle.std.proofs.Common.{◌≡◌, ℕ, zero, suc, ◌<◌, ◌≤◌, ◌⊎◌, Bool, true, false, List, [], ◌∷◌, Some, inl, inr, refl, sym, ◌∙◌, ap, subst, lit<, lit≤, arith}
+use Rattle.std.proofs.Common.{◌≡◌, ℕ, ◌<◌, ◌≤◌, ◌⊎◌, Bool, true, false, List, [], ◌∷◌, Some, inl, inr, refl, sym, ◌∙◌, ap, subst, lit<, lit≤, arith}
 use Rattle.std.proofs.lemmas.Bool.{false≢true}
 use Rattle.std.proofs.lemmas.Option.{same_Some}
+use Rattle.std.proofs.lemmas.Bool.Decides.{nat_tests}
 use Rattle.pmt_model.specs.declared.event.Event.{Event}
 use Rattle.pmt_model.specs.declared.finding.Finding.{Finding}
 use Rattle.pmt_model.specs.declared.finding.Finding.TheVariants.{Overwritten, NeverPersisted, RedundantFlush, FenceWithoutFlush}
@@ -18,7 +19,7 @@ use Rattle.pmt_laws.proofs.NeverLemmas.{never_persisted_by_fronts}
 use Rattle.pmt_laws.proofs.RedundantLemmas.{redundant_flush_by_fronts}
 use Rattle.pmt_laws.proofs.OverwrittenLemmas.{overwritten_by_numbers}
 use Rattle.pmt_laws.proofs.ByteAssertions.{keeps, passes-covered}
-use Rattle.pmt_laws.proofs.KeptTest.{act_at, there-act}
+use Rattle.pmt_laws.proofs.KeptTest.{there-act}
 
 abbrev first : Written
 first = record { addr = 0x1000; bytes = 1 ∷ [] }
@@ -36,16 +37,7 @@ Numbered i a =
     ((i ≡ 1) × (a ≡ Stores 64 first)) ⊎ (((i ≡ 2) × (a ≡ Stores 64 second)) ⊎ (((i ≡ 3) × (a ≡ Flushes 0 64)) ⊎ (((i ≡ 4) × (a ≡ Flushes 0 64)) ⊎ (((i ≡ 5) × (a ≡ Fences 1)) ⊎ ((i ≡ 6) × (a ≡ Asserts))))))
 
 numbered : (i : ℕ) (a : Act) → ActIs i a → Numbered i a
-numbered i a is = go i (there-act every_finding i a is)
-  where
-    go : (i : ℕ) → act_at every_finding i ≡ Some a → Numbered i a
-    go (suc zero) e = inl (refl, (cc))
-    go (suc (suc zero)) e = inr (inl (refl, (cc)))
-    go (suc (suc (suc zero))) e = inr (inr (inl (refl, (cc))))
-    go (suc (suc (suc (suc zero)))) e = inr (inr (inr (inl (refl, (cc)))))
-    go (suc (suc (suc (suc (suc zero))))) e = inr (inr (inr (inr (inl (refl, (cc))))))
-    go (suc (suc (suc (suc (suc (suc zero)))))) e = inr (inr (inr (inr (inr (refl, (cc))))))
-    go i e = cc
+numbered i a is = grind (arith, nat_tests, there-act)
 
 stores : (i l : ℕ) (w : Written) → ActIs i (Stores l w) → ((i ≡ 1) ⊎ (i ≡ 2)) × (l ≡ 64)
 stores i l w is = grind (arith, numbered i (Stores l w) is)
@@ -98,21 +90,10 @@ first_flush : IsRedundantFlush every_finding 0 64 3 → ⊥
 first_flush redundant = let above : 2 ≤ 0 = (redundant_flush_by_fronts every_finding 0 64 3 (clwb 0 0x1000, refl, refl)).0 redundant in omega arith
 
 listed_is : (f : Finding) → HasFinding listed f → IsFinding every_finding f
-listed_is f (inl e) = subst (IsFinding every_finding) e first_lost
-listed_is f (inr (inl e)) = subst (IsFinding every_finding) e first_overwritten
-listed_is f (inr (inr (inl e))) = subst (IsFinding every_finding) e second_lost
-listed_is f (inr (inr (inr (inl e)))) = subst (IsFinding every_finding) e second_flush
-listed_is f (inr (inr (inr (inr (inl e))))) = subst (IsFinding every_finding) e empty_fence
-listed_is f (inr (inr (inr (inr (inr none))))) = absurd none
+listed_is f v1 = grind (arith, nat_tests, first_lost, first_overwritten, second_lost, second_flush, empty_fence)
 
 is_listed : (f : Finding) → IsFinding every_finding f → HasFinding listed f
-is_listed (Overwritten j i) o = go j i ((stores j o.line o.earlier o.is_earlier).0) ((stores i o.line o.later o.is_later).0) o.order
-  where
-    go : (j i : ℕ) → (j ≡ 1) ⊎ (j ≡ 2) → (i ≡ 1) ⊎ (i ≡ 2) → j < i → HasFinding listed (Overwritten j i)
-    go j i (inl d) (inl e) order = absurd (omega arith)
-    go j i (inl d) (inr e) order = inr (inl (cc))
-    go j i (inr d) (inl e) order = absurd (omega arith)
-    go j i (inr d) (inr e) order = absurd (omega arith)
+is_listed (Overwritten j i) o = grind (arith, nat_tests, stores)
 is_listed (NeverPersisted i flushed) (l, never, told) = go i flushed at.0 (told.1 after)
   where
     at : ((i ≡ 1) ⊎ (i ≡ 2)) × (l ≡ 64)

@@ -1,8 +1,7 @@
 -- What the definitions say of the worked traces with findings, of the order within a line, and of lines of other sizes.
-use Rattle.std.proofs.Common.{◌≡◌, ℕ, ◌≤◌, ◌⊎◌, [], ◌∷◌, true, inl, inr, refl, subst, lit<, lit≤, arith}
-use Rattle.pmt_model.specs.Machine.{Stores, writes}
+use Rattle.std.proofs.Common.{◌≡◌, ℕ, ◌≤◌, ◌⊎◌, [], ◌∷◌, true, inl, inr, refl, lit<, lit≤, arith}
+use Rattle.pmt_model.specs.Machine.{writes}
 use Rattle.pmt_model.specs.declared.finding.Finding.TheVariants.{Overwritten}
-use Rattle.pmt_model.specs.Values.{Written}
 use Rattle.pmt_model.specs.Traces.{history}
 use Rattle.pmt_model.specs.Analyses.{IsFinding}
 use Rattle.pmt_laws.specs.Worked.{store, clwb, clflush}
@@ -28,19 +27,7 @@ writes-one a value byte e = grind (arith, nat_tests)
 
 -- No byte is written by both of the last two stores.
 not_beside : IsFinding overwritten_before_flush (Overwritten 2 3) → ⊥
-not_beside o =
-    let beside : Written = record { addr = 0x1001; bytes = 2 ∷ [] } in
-    let again : Written = record { addr = 0x1000; bytes = 3 ∷ [] } in
-    let second : Stores o.line o.earlier ≡ Stores 64 beside =
-    act-unique overwritten_before_flush 2 (Stores o.line o.earlier) (Stores 64 beside) o.is_earlier (store 0 0x1001 2, refl, refl) in
-    let third : Stores o.line o.later ≡ Stores 64 again =
-    act-unique overwritten_before_flush 3 (Stores o.line o.later) (Stores 64 again) o.is_later (store 1 0x1000 3, refl, refl) in
-    let P : Written → Type 0 = λ w. writes w o.byte ≡ true in
-    let earlier : o.earlier ≡ beside = cc in
-    let later : o.later ≡ again = cc in
-    let high : o.byte ≡ 0x1001 = writes-one 0x1001 2 o.byte (subst P earlier o.writes_earlier) in
-    let low : o.byte ≡ 0x1000 = writes-one 0x1000 3 o.byte (subst P later o.writes_later) in
-    omega arith
+not_beside o = grind (arith, nat_tests, act-unique, writes-one)
 
 -- The last store overwrites the first one, and not the one beside it.
 pub overwritten_before_flush_says : OverwrittenBeforeFlush

@@ -1,15 +1,15 @@
 -- What the definitions say of the worked traces.
 use Rattle.std.proofs.Common.{◌≡◌, ℕ, zero, suc, ◌-◌, ◌<◌, ◌≤◌, ◌⊎◌, ◌↔◌, Bool, true, false, List, [], ◌∷◌, Option, None, inl, inr, refl, sym, ◌∙◌, ap, subst, lit<, lit≤, arith, max, unwrap_or}
-use Rattle.std.specs.Prelude.{nat_lt, slice_get, if◌then◌else◌}
+use Rattle.std.specs.Prelude.{nat_lt, if◌then◌else◌}
 use Rattle.std.proofs.lemmas.Bool.{false≢true, cases_eq, ne_eqb, lt-ltb}
 use Rattle.pmt_model.specs.declared.finding.Finding.TheVariants.{RedundantFlush, Overwritten}
 use Rattle.pmt_model.specs.Values.{Written}
-use Rattle.pmt_model.specs.Machine.{Act, Stores, Flushes, Clflushes, Fences, State, Ends, Image, writes, write, image_of, Crash, count}
+use Rattle.pmt_model.specs.Machine.{Act, Stores, Flushes, Clflushes, State, Ends, Image, write, image_of, Crash, count}
 use Rattle.pmt_model.specs.Traces.{IsAct, history, CrashAt, VectorsAt, Recording, count_at}
 use Rattle.pmt_model.specs.Fronts.{front, front_at, open_mark}
 use Rattle.pmt_model.specs.Boxes.{InBox}
 use Rattle.pmt_model.specs.Selections.{cut}
-use Rattle.pmt_model.specs.Findings.{ByFlush, ByClflush, IsFlushedAfter, IsFlushOf, IsEmptyFence, IsCovered, IsRedundantFlush, IsRedundantClflush}
+use Rattle.pmt_model.specs.Findings.{ByFlush, IsFlushedAfter, IsFlushOf, IsEmptyFence, IsCovered, IsRedundantClflush}
 use Rattle.pmt_model.specs.Analyses.{IsFinding}
 use Rattle.pmt_laws.specs.Worked.{nothing, byte_alone, IsSame, store, clwb, clflush, sfence, fence_of_another_thread, FenceOfAnotherThread, flushed_by_two_threads, FlushedByTwoThreads, two_rounds, TwoRounds, store_after_flush, StoreAfterFlush, ordered_by_fence, OrderedByFence, ordered_fence_too_late, OrderedFenceTooLate, same_byte_twice, SameByteTwice, clflush_beats_clwb, ClflushBeatsClwb}
 use Rattle.pmt_laws.proofs.Histories.{act-within, act-unique, front-le-count}
@@ -25,12 +25,7 @@ use Rattle.std.proofs.lemmas.Bool.Decides.{nat_tests}
 -- A flush for which there are more stores than the front and the open mark count is not redundant.
 pub unredundant_flush : (T : Recording) (t l i : ℕ) → IsAct T i (Flushes t l) →
     ¬ (count_at T l i ≤ max (front_at T l (i - 1)) (unwrap_or (open_mark t l (history T (i - 1))) 0)) → ¬ IsFinding T (RedundantFlush i)
-unredundant_flush T t l i is more (inl (u, k, redundant)) =
-    let same : Flushes u k ≡ Flushes t l = act-unique T i (Flushes u k) (Flushes t l) redundant.is_flush is in
-    let thread : u ≡ t = cc in
-    let line : k ≡ l = cc in
-    more ((redundant_flush_by_fronts T t l i is).0 (subst (λ v. IsRedundantFlush T v l i) thread (subst (λ m. IsRedundantFlush T u m i) line redundant)))
-unredundant_flush T t l i is more (inr (k, redundant)) = let same = act-unique T i (Clflushes k) (Flushes t l) redundant.is_clflush is in cc
+unredundant_flush v0 t l i is more v6 = grind (arith, nat_tests, act-unique, redundant_flush_by_fronts)
 
 -- Nor is a clflush for which there are more than the front counts.
 pub unredundant_clflush : (T : Recording) (l i : ℕ) → IsAct T i (Clflushes l) → ¬ (count_at T l i ≤ front_at T l (i - 1)) → ¬ IsFinding T (RedundantFlush i)
@@ -165,18 +160,7 @@ two_rounds_says = record {
 
 -- After the second store comes a fence alone.
 fence_alone : (l : ℕ) → IsFlushedAfter store_after_flush l 3 → ⊥
-fence_alone l (j, after, flush) = by_kind flush
-  where
-    at_fence : (a : Act) → IsAct store_after_flush j a → Fences 0 ≡ a
-    at_fence a is =
-        let within : j ≤ 4 = (act-within store_after_flush j a is).1 in
-        let e : j ≡ 4 = omega arith in
-        let P : ℕ → Type 0 = λ k. IsAct store_after_flush k a in
-        act-unique store_after_flush 4 (Fences 0) a (sfence 0, refl, refl) (subst P e is)
-
-    by_kind : IsFlushOf store_after_flush l j → ⊥
-    by_kind (ByFlush t is) = let e : Fences 0 ≡ Flushes t l = at_fence (Flushes t l) is in cc
-    by_kind (ByClflush is) = let e : Fences 0 ≡ Clflushes l = at_fence (Clflushes l) is in cc
+fence_alone l v1 = grind (arith, nat_tests, act-within, act-unique)
 
 -- The line is flushed between its two stores.
 flushed_between : IsFinding store_after_flush (Overwritten 1 3) → ⊥
@@ -244,12 +228,7 @@ once_or_twice false true here byte e = refl
 -- With a store of the byte persisted memory holds the byte.
 holds_byte : (persisted : ℕ → ℕ) (a : ℕ) → 1 ≤ persisted 64 →
     (image_of persisted (history same_byte_twice 7) a ≡ byte_written a) × (image_of persisted (history (cut same_byte_twice first_fence_alone) 5) a ≡ byte_written a)
-holds_byte persisted a le = (both, both)
-  where
-    both : image_of persisted (history same_byte_twice 7) a ≡ byte_written a
-    both =
-        once_or_twice (nat_lt 1 (persisted 64)) (nat_lt 0 (persisted 64)) (writes (record { addr = 0x1000; bytes = 7 ∷ [] }) a) (slice_get (7 ∷ []) (a - 0x1000))
-        (lt-ltb 0 (persisted 64) le)
+holds_byte persisted a le = grind (arith, nat_tests, once_or_twice, lt-ltb)
 
 -- Where each run ends with one of these stores persisted, memory holds the byte.
 leaves_byte : (h : List Act) (image : Image) → 1 ≤ front 64 h → ((persisted : ℕ → ℕ) (a : ℕ) → 1 ≤ persisted 64 → image_of persisted h a ≡ byte_written a) →
