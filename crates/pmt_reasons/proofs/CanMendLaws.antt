@@ -1,16 +1,16 @@
 -- Each mend that is told can be put in.
-use Rattle.std.proofs.Common.{◌≡◌, ℕ, zero, suc, ◌<◌, ◌≤◌, inl, inr, Bool, true, false, List, [], ◌∷◌, length, Option, None, Some, refl, sym, ap, subst, ◌∙◌, arith, eq-eqb, ◌==◌}
+use Rattle.std.proofs.Common.{◌≡◌, ℕ, zero, suc, ◌<◌, ◌≤◌, inl, inr, Bool, true, false, List, [], ◌∷◌, length, Option, None, Some, refl, sym, ap, subst, ◌∙◌, arith}
 use Rattle.std.specs.Prelude.{slice_get, MatchOption}
 use Rattle.std.specs.List.{AllByRecursion}
 use Rattle.std.proofs.lemmas.Bool.{cases_lt, cond-true}
 use Rattle.std.proofs.lemmas.Option.{none-some}
+use Rattle.std.proofs.lemmas.Bool.Decides.{nat_tests}
 use Rattle.pmt_model.specs.Values.{Layout, Span, Written, IsAddress, line_of}
 use Rattle.pmt_model.specs.declared.event.Event.{Event}
 use Rattle.pmt_model.specs.declared.event.Op.{Op}
 use Rattle.pmt_model.specs.declared.event.Op.TheVariants.{Store, Clwb, ClflushOpt, Sfence, IsPersist, IsOrderedBefore}
 use Rattle.pmt_model.specs.Machine.{Act, Stores, Flushes, Asserts}
 use Rattle.pmt_model.specs.Traces.{Recording, IsTrace, IsAct, IsOp, IsEventIn, act, act_of, event, count_at}
-use Rattle.pmt_model.specs.Fronts.{front_at}
 use Rattle.pmt_laws.proofs.Histories.{act-unique, act-within, event-within}
 use Rattle.pmt_reasons.specs.declared.cause.Cause.TheVariants.{Later, Unflushed, Unfenced}
 use Rattle.pmt_reasons.specs.declared.failure.Failure.{Failure}
@@ -156,22 +156,10 @@ record Crashes (T : Recording) (f : Failure) : Type 0 where
   apart : (l : ℕ) (w : Written) → IsAct T f.lost.store (Stores l w) → ¬ (f.lost.store ≡ f.place)
 
 persist-crashes : (T : Recording) (i : ℕ) (A : Span) (f : Failure) → IsAct T i Asserts → IsPersistFailure T i A f → Crashes T f
-persist-crashes T i A f is fails =
-    let here : IsAct T f.place Asserts = subst (λ (n : ℕ). IsAct T n Asserts) (sym fails.place) is in
-    record {
-      here = Asserts;
-      is_here = here;
-      no_flush = λ t l e. let x : ⊥ = cc in x;
-      apart = λ l w store same.
-          let e : Stores l w ≡ Asserts = act-unique T f.place (Stores l w) Asserts (subst (λ (n : ℕ). IsAct T n (Stores l w)) same store) here in
-          let x : ⊥ = cc in x;
-    }
+persist-crashes T i A f is fails = grind (arith, nat_tests, act-unique)
 
 full-line : (T : Recording) (k l n x : ℕ) → l ≡ k → x ≡ n → ¬ (persisted_at T n (Some k) l < count_at T l x)
-full-line T k l n x line number missing =
-    let e : persisted_at T n (Some k) l ≡ count_at T l n = cond-true (l == k) (count_at T l n) (front_at T l n) (eq-eqb l k line) in
-    let c : count_at T l x ≡ count_at T l n = ap (count_at T l) number in
-    omega (arith, missing, e, c)
+full-line T k l n x line number missing = grind (arith, nat_tests, cond-true)
 
 ordered-crashes : (T : Recording) (i : ℕ) (A B : Span) (f : Failure) → IsOrderedFailure T i A B f → Crashes T f
 ordered-crashes T i A B f fails =

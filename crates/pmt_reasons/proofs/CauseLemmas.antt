@@ -1,6 +1,7 @@
 -- A store is pending at a place exactly where one of the three causes holds, and then just one.
 use Rattle.std.proofs.Common.{◌≡◌, ℕ, zero, suc, ◌<◌, ◌≤◌, ◌⊎◌, inl, inr, Option, None, Some, refl, ap, subst, ◌∙◌, arith}
 use Rattle.std.proofs.lemmas.Bool.{cases_lt}
+use Rattle.std.proofs.lemmas.Bool.Decides.{nat_tests}
 use Rattle.pmt_model.specs.Values.{Written}
 use Rattle.pmt_model.specs.Machine.{Act, Stores, Flushes, Clflushes, Fences, count}
 use Rattle.pmt_model.specs.Traces.{Recording, IsAct, history, count_at}
@@ -100,11 +101,7 @@ IsFlushedBy T l i n t = (j : ℕ) × (i < j) × (j ≤ n) × IsAct T j (Flushes 
 
 -- what holds up to a place and at the next one holds up to that one
 until-next : (P : ℕ → Type 0) (i n : ℕ) → ((k : ℕ) → i < k → k ≤ n → P k) → P (suc n) → (k : ℕ) → i < k → k ≤ suc n → P k
-until-next P i n before next k after by_now = go (cases_lt k (suc n))
-  where
-    go : (k < suc n) ⊎ (suc n ≤ k) → P k
-    go (inl earlier) = before k after (omega arith)
-    go (inr last) = let e : suc n ≡ k = omega arith in subst P e next
+until-next P i n before next k after by_now = grind (arith, nat_tests, cases_lt)
 
 -- one more event that is no flush of the line
 unflushed-next : (T : Recording) (l i n : ℕ) → IsUnflushed T l i n → ¬ IsFlushOf T l (suc n) → IsUnflushed T l i (suc n)

@@ -1,7 +1,8 @@
 -- A failure is a crash that violates its assertion, and an assertion without one passes.
-use Rattle.std.proofs.Common.{◌≡◌, ℕ, zero, suc, ◌<◌, ◌≤◌, ◌==◌, ◌⊎◌, inl, inr, Bool, true, false, List, ◌∷◌, ◌++◌, [], Option, None, Some, refl, sym, ap, subst, ◌∙◌, arith, eqb-true, IfSome}
-use Rattle.std.specs.Prelude.{if◌then◌else◌, IsSomeAnd}
+use Rattle.std.proofs.Common.{◌≡◌, ℕ, zero, suc, ◌<◌, ◌≤◌, ◌==◌, ◌⊎◌, inl, inr, List, ◌∷◌, ◌++◌, [], Option, None, Some, refl, sym, ap, subst, ◌∙◌, arith, IfSome}
+use Rattle.std.specs.Prelude.{IsSomeAnd}
 use Rattle.std.proofs.lemmas.Bool.{cases_lt, cond_both, cond-true, eq-eqb}
+use Rattle.std.proofs.lemmas.Bool.Decides.{nat_tests}
 use Rattle.pmt_model.specs.Values.{Span}
 use Rattle.pmt_model.specs.Machine.{Act, Stores, IsMoment}
 use Rattle.pmt_model.specs.Boxes.{InBox}
@@ -30,10 +31,7 @@ history-extends T n (suc i) h = go (cases_lt n (suc i)) (λ within. history-exte
 
 -- the counts of the crash lie between the fronts and the counts
 crash-box : (T : Recording) (n : ℕ) (full : Option ℕ) → InBox (history T n) (persisted_at T n full)
-crash-box T n None l = (omega arith, front-le-count l (history T n))
-crash-box T n (Some k) l =
-    let few = front-le-count l (history T n) in
-    cond_both (l == k) (count_at T l n) (front_at T l n) (λ v. (front_at T l n ≤ v) × (v ≤ count_at T l n)) (λ same. (few, omega arith)) (λ other. (omega arith, few))
+crash-box T n full l = grind (arith, nat_tests, front-le-count, cond_both)
 
 -- the crash is at a moment of a run
 pub crash_is_moment : CrashIsMoment
@@ -51,10 +49,7 @@ crash_is_moment T i n full within =
 -- the line and the rank of a last store that is lost
 lost-found : (T : Recording) (i n : ℕ) (full : Option ℕ) (x : ByteStore) (found : IsLastFound T x.byte i (history T i) x.store) → IsLost T n full x.store →
     persisted_at T n full found.line < count_at T found.line x.store
-lost-found T i n full x found lost =
-    let same = act-unique T x.store (Stores lost.line lost.what) (Stores found.line found.what) lost.is_store found.is_store in
-    let line : lost.line ≡ found.line = cc in
-    subst (λ l. persisted_at T n full l < count_at T l x.store) line lost.missing
+lost-found T i n full x found lost = grind (arith, nat_tests, act-unique)
 
 -- a lost store is not persisted
 lost-missing : (T : Recording) (i n : ℕ) (full : Option ℕ) (A : Span) (x : ByteStore) (v : ℕ → ℕ) → IsLastIn T i A x → IsLost T n full x.store → ((l : ℕ) → v l ≡ persisted_at T n full l) →
@@ -87,10 +82,7 @@ ordered_failure_fails T i A B f x passes =
 
 -- a last store that the crash does not lose is persisted
 kept-found : (T : Recording) (i n : ℕ) (full : Option ℕ) (b x : ℕ) (found : IsLastFound T b i (history T i) x) → (IsLost T n full x → ⊥) → count_at T found.line x ≤ persisted_at T n full found.line
-kept-found T i n full b x found kept = elim (cases_lt (persisted_at T n full found.line) (count_at T found.line x)) [
-  | inl missing ↦ absurd (kept (record { line = found.line; what = found.what; is_store = found.is_store; missing = missing }))
-  | inr there ↦ there
-]
+kept-found T i n full b x found kept = grind (arith, nat_tests, cases_lt)
 
 -- an isPersist passes where the crash at its place loses no last store
 pub persist-passes : (T : Recording) (i : ℕ) (A : Span) → ((z : ByteStore) → IsLastIn T i A z → IsLost T i None z.store → ⊥) → PersistPasses (history T i) A
@@ -109,12 +101,7 @@ persist-passes T i A none = (persist_by_fronts (history T i) A).1 (λ a inside. 
 -- what a kept store's line and count say of another store
 no_later : (T : Recording) (l k x y : ℕ) → count_at T l x ≤ persisted_at T y (Some k) l →
     NoLater (history T y) (record { line = l; rank = count_at T l x }) (record { line = k; rank = count_at T k y })
-no_later T l k x y there = go (l == k) refl there
-  where
-    go : (b : Bool) → (l == k) ≡ b → count_at T l x ≤ (if b then count_at T l y else front_at T l y) →
-        NoLater (history T y) (record { line = l; rank = count_at T l x }) (record { line = k; rank = count_at T k y })
-    go true same few = let e : l ≡ k = eqb-true l k same in inl (e, subst (λ j. count_at T l x ≤ count_at T j y) e few)
-    go false other few = inr few
+no_later T l k x y there = grind (arith, nat_tests)
 
 -- an isOrderedBefore passes where no crash right after a last store to its second range loses a last store to its first
 pub ordered-passes : (T : Recording) (i : ℕ) (A B : Span) → ((y x : ByteStore) → IsLastIn T i A x → IsKeptWithout T i B y x.store → ⊥) → OrderedPasses (history T i) A B

@@ -1,6 +1,7 @@
 -- The last store to a byte, by its number.
 use Rattle.std.proofs.Common.{◌≡◌, ℕ, zero, suc, ◌≤◌, ◌⊎◌, inl, inr, Bool, true, false, List, ◌∷◌, length, Option, None, Some, refl, sym, ap, subst, ◌∙◌, arith}
 use Rattle.std.specs.Prelude.{if◌then◌else◌}
+use Rattle.std.proofs.lemmas.Bool.Decides.{nat_tests}
 use Rattle.pmt_model.specs.Values.{Written}
 use Rattle.pmt_model.specs.Machine.{Act, Stores, writes, count}
 use Rattle.pmt_model.specs.Traces.{Recording, IsAct, history, count_at}
@@ -25,15 +26,7 @@ TellsLast T b n h (Some x) = IsLastFound T b n h x
 
 -- another act is no store to the byte
 last-later : (T : Recording) (b n : ℕ) (h g : List Act) (o : Option ℕ) → last_store b g ≡ last_store b h → up_to_last b g ≡ up_to_last b h → TellsLast T b n h o → TellsLast T b (suc n) g o
-last-later T b n h g None same past none = same ∙ none
-last-later T b n h g (Some x) same past found = record {
-  line = found.line;
-  what = found.what;
-  is_store = found.is_store;
-  by_now = omega (arith, found.by_now);
-  store = same ∙ found.store;
-  past = past ∙ found.past;
-}
+last-later T b n h g o same past none = grind (arith, nat_tests)
 
 -- a store, to the byte or not
 last-store : (T : Recording) (b n k : ℕ) (w : Written) → IsAct T (suc n) (Stores k w) → TellsLast T b n (history T n) (last_store_number b (history T n)) → (t : Bool) → writes w b ≡ t →
@@ -49,10 +42,7 @@ last-store T b n k w is before true wrote =
       store = ap (λ (s : Bool). if s then Some (record { line = k; rank = suc (count k (history T n)) }) else last_store b (history T n)) wrote ∙ ap (λ (r : ℕ). Some (record { line = k; rank = r })) rank;
       past = ap (λ (s : Bool). if s then Stores k w ∷ history T n else up_to_last b (history T n)) wrote ∙ sym (history-act T n (Stores k w) is);
     })
-last-store T b n k w is before false other =
-    last-later T b n (history T n) (Stores k w ∷ history T n) (last_store_number b (history T n))
-    (ap (λ (s : Bool). if s then Some (record { line = k; rank = suc (count k (history T n)) }) else last_store b (history T n)) other)
-    (ap (λ (s : Bool). if s then Stores k w ∷ history T n else up_to_last b (history T n)) other) before
+last-store T b n k w is before false other = grind (arith, nat_tests, last-later)
 
 -- one more act
 last-act : (T : Recording) (b n : ℕ) (a : Act) → IsAct T (suc n) a → TellsLast T b n (history T n) (last_store_number b (history T n)) →

@@ -4,6 +4,7 @@ use Rattle.std.specs.Prelude.{MatchOption}
 use Rattle.std.specs.Option.{option_map}
 use Rattle.std.proofs.lemmas.Bool.{cases_lt}
 use Rattle.std.proofs.lemmas.Option.{none-some}
+use Rattle.std.proofs.lemmas.Bool.Decides.{nat_tests}
 use Rattle.pmt_model.specs.Values.{Span, Written}
 use Rattle.pmt_model.specs.declared.event.Event.{Event}
 use Rattle.pmt_model.specs.declared.event.Op.{Op}
@@ -99,10 +100,7 @@ fenced-safe T U new l n x flush thread b m other why events rises fence late =
 -- the line of a store that is stored first is flushed and fenced before the event
 stored-first_safe : (T U : Recording) (new : ℕ → ℕ) (l x b m : ℕ) (w : Written) → IsAct T x (Stores l w) → IsStoredBefore T U new x b false → b ≤ suc m →
     count_at U l (new x) ≤ front_at U l m
-stored-first_safe T U new l x b m w store put late =
-    let same = act-unique T x (Stores put.line put.what) (Stores l w) put.is_store store in
-    let line : put.line ≡ l = cc in
-    subst (λ k. count_at U k (new x) ≤ front_at U k m) line (flushed-safe U put.line (new x) (new x) b m (omega arith) late (put.flushed refl))
+stored-first_safe T U new l x b m w store put late = grind (arith, nat_tests, act-unique, flushed-safe)
 
 -- ---- The laws
 

@@ -44,16 +44,7 @@ number-rises p i j less = grind (arith, nat_tests)
 -- ---- A trace with one more event
 
 put-events : (T : Recording) (p : ℕ) (e : Event) → p ≤ length T.events → HasEvents T (put_in T p e) (number_after p)
-put-events T p e within zero a is = absurd (none-some is.0 is.1)
-put-events T p e within (suc j) a is = go (cases_lt p (suc j))
-  where
-    go : (p < suc j) ⊎ (suc j ≤ p) → IsAct (put_in T p e) (number_after p (suc j)) a
-    go (inl high) =
-        let at : slice_get (with_at p e T.events) (suc j) ≡ Some is.0 = with-high p j e T.events (omega arith) ∙ is.1 in
-        subst (λ (k : ℕ). IsAct (put_in T p e) k a) (sym (number-high p (suc j) high)) (is.0, at, is.2)
-    go (inr low) =
-        let at : slice_get (with_at p e T.events) j ≡ Some is.0 = with-low p j e T.events (omega arith) within ∙ is.1 in
-        subst (λ (k : ℕ). IsAct (put_in T p e) k a) (sym (number-low p (suc j) low)) (is.0, at, is.2)
+put-events T p e within h a is = grind (arith, nat_tests, none-some, cases_lt, with-high, number-high, with-low, number-low)
 
 put-act : (T : Recording) (p : ℕ) (e : Event) (a : Act) → p ≤ length T.events → act T.format e ≡ a → IsAct (put_in T p e) (suc p) a
 put-act T p e a within is = (e, with-here p e T.events within, is)
@@ -80,12 +71,7 @@ fence_can_be_put_in T thread after p before fence is place = (
 
 both-before : (T : Recording) (p : ℕ) (flush fence : Event) (before : Option ℕ) → p ≤ length T.events → MatchOption before (Unit {0}) (λ (b : ℕ). p < b) →
     suc (suc p) < number_or_end (put_in_both T p flush fence) (number_after_both p) before
-both-before T p flush fence None within ahead = omega (arith, with-length p fence T.events, with-length p flush (with_at p fence T.events))
-both-before T p flush fence (Some b) within ahead =
-    let once : number_after p b ≡ suc b = number-high p b ahead in
-    let twice : number_after p (suc b) ≡ suc (suc b) = number-high p (suc b) (omega arith) in
-    let all : number_after p (number_after p b) ≡ suc (suc b) = ap (number_after p) once ∙ twice in
-    omega (arith, all)
+both-before T p flush fence before within ahead = grind (arith, nat_tests, with-length, number-high)
 
 pub flush_and_fence_can_be_put_in : FlushAndFenceCanBePutIn
 flush_and_fence_can_be_put_in T thread line after p before flush fence is_flush is_fence place =
@@ -142,17 +128,7 @@ past : (k n : ℕ) → k < n → ¬ (n ≡ suc k) → suc k < n
 past k n above apart = elim (cases_lt (suc k) n) [ inl high ↦ high | inr low ↦ absurd (apart (omega arith)) ]
 
 first-rises : (k p i j : ℕ) → p ≤ k → ¬ (i ≡ suc k) → ¬ (j ≡ suc k) → i < j → number_first k p i < number_first k p j
-first-rises k p i j early one two less = go (cases_lt p i) (cases_lt k i) (cases_lt p j) (cases_lt k j)
-  where
-    go : (p < i) ⊎ (i ≤ p) → (k < i) ⊎ (i ≤ k) → (p < j) ⊎ (j ≤ p) → (k < j) ⊎ (j ≤ k) → number_first k p i < number_first k p j
-    go (inr a) b (inr c) d = omega (arith, first-low k p i a, first-low k p j c)
-    go (inr a) b (inl c) (inr d) = omega (arith, first-low k p i a, first-between k p j c d)
-    go (inr a) b (inl c) (inl d) = omega (arith, first-low k p i a, first-high k p j early (past k j d two), less)
-    go (inl a) (inr b) (inl c) (inr d) = omega (arith, first-between k p i a b, first-between k p j c d, less)
-    go (inl a) (inr b) (inl c) (inl d) = omega (arith, first-between k p i a b, first-high k p j early (past k j d two))
-    go (inl a) (inl b) c (inl d) = omega (arith, first-high k p i early (past k i b one), first-high k p j early (past k j d two), less)
-    go (inl a) b (inr c) d = absurd (omega arith)
-    go (inl a) (inl b) c (inr d) = absurd (omega arith)
+first-rises k p i j early one two less = grind (arith, nat_tests, cases_lt, first-low, first-between, first-high, past)
 
 first-events : (T : Recording) (k p : ℕ) (store : Event) → event T (suc k) ≡ Some store → p ≤ k → HasEvents T (put_first T k p store) (number_first k p)
 first-events T k p store at early zero a is = absurd (none-some is.0 is.1)

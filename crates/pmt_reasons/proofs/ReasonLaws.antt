@@ -1,6 +1,7 @@
 -- Of each dropped event a reason holds, and of a kept one none.
 use Rattle.std.proofs.Common.{◌≡◌, ◌≢◌, ℕ, zero, suc, ◌-◌, ◌<◌, ◌≤◌, ◌⊎◌, inl, inr, true, length, refl, sym, ap, subst, ◌∙◌, arith}
 use Rattle.std.proofs.lemmas.Bool.{cases_lt, cases_eq}
+use Rattle.std.proofs.lemmas.Bool.Decides.{nat_tests}
 use Rattle.pmt_model.specs.Machine.{Act, Flushes, Clflushes, Fences, count}
 use Rattle.pmt_model.specs.Traces.{Recording, IsAct, history, count_at}
 use Rattle.pmt_model.specs.Fronts.{front, mark, front_at}
@@ -76,13 +77,7 @@ reason-not_kept T (suc n) r (OfClflush l is why) kept =
     let raises = clflush-raises T l n is kept in
     absurd (omega (arith, raises, subst (λ k. count_at T l (suc n) ≤ front_at T l k) before safe))
 reason-not_kept T zero r (OfFence t is why) kept = absurd (omega (arith, (act-within T zero (Fences t) is).0))
-reason-not_kept T (suc n) r (OfFence t is why) kept =
-    let before : suc n - 1 ≡ n = omega arith in
-    let x = fence-flushed T t n is kept in
-    elim (fence-reasons T t (suc n) r why) [
-      | inl p ↦ p.1 x.0
-      | inr p ↦ x.1.1 (subst (λ k. front_at T x.1.0 (suc n) ≡ front_at T x.1.0 k) before (p.1.raises_none x.1.0))
-    ]
+reason-not_kept T (suc n) r (OfFence t is why) kept = grind (arith, nat_tests, fence-flushed, fence-reasons)
 
 -- the first number above i, up to n, of which P holds, or none
 first-such : (P : ℕ → Type 0) → ((k : ℕ) → P k ⊎ (P k → ⊥)) → (i n : ℕ) →

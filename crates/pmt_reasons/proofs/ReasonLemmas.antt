@@ -1,6 +1,7 @@
 -- Of each dropped event one reason holds, and of a kept one none.
-use Rattle.std.proofs.Common.{◌≡◌, ℕ, ◌-◌, ◌<◌, ◌≤◌, ◌⊎◌, inl, inr, refl, sym, ap, subst, ◌∙◌, arith}
+use Rattle.std.proofs.Common.{◌≡◌, ℕ, ◌<◌, ◌≤◌, ◌⊎◌, inl, inr, refl, sym, ap, ◌∙◌, arith}
 use Rattle.std.proofs.lemmas.Bool.{cases_lt}
+use Rattle.std.proofs.lemmas.Bool.Decides.{nat_tests}
 use Rattle.pmt_model.specs.Machine.{Flushes, Clflushes, Fences}
 use Rattle.pmt_model.specs.Traces.{Recording, IsAct}
 use Rattle.pmt_laws.proofs.Histories.{act-unique, front-mono}
@@ -28,12 +29,7 @@ repeated-unique T t l i a b x y = ap Repeated (go (cases_lt a b) (cases_lt b a))
 
 -- an event that overtakes is one event
 overtaken-unique : (T : Recording) (t l i a b : ℕ) → IsOvertaken T t l i a → IsOvertaken T t l i b → Overtaken a ≡ Overtaken b
-overtaken-unique T t l i a b x y = ap Overtaken (go (cases_lt a b) (cases_lt b a))
-  where
-    go : (a < b) ⊎ (b ≤ a) → (b < a) ⊎ (a ≤ b) → a ≡ b
-    go (inl less) q = absurd (omega (arith, x.reached, y.first, front-mono T l a (b - 1) (omega arith)))
-    go (inr p) (inl less) = absurd (omega (arith, y.reached, x.first, front-mono T l b (a - 1) (omega arith)))
-    go (inr p) (inr q) = omega arith
+overtaken-unique T t l i a b x y = grind (arith, nat_tests, cases_lt, front-mono)
 
 -- a flush that repeats is none where the flush is the last one
 not-both : (T : Recording) (t l i a b : ℕ) → IsRepeated T t l i a → IsOvertaken T t l i b → ⊥
@@ -74,41 +70,19 @@ fence-reasons T t j a x = absurd x
 
 -- a fence has one reason
 fence-reason-unique : (T : Recording) (t j : ℕ) (r s : Reason) → IsFenceReason T t j r → IsFenceReason T t j s → r ≡ s
-fence-reason-unique T t j r s x y = go (fence-reasons T t j r x) (fence-reasons T t j s y)
-  where
-    go : ((r ≡ Empty) × (HasFlushed T t j → ⊥)) ⊎ ((r ≡ Useless) × IsUseless T t j) → ((s ≡ Empty) × (HasFlushed T t j → ⊥)) ⊎ ((s ≡ Useless) × IsUseless T t j) → r ≡ s
-    go (inl p) (inl q) = p.0 ∙ sym q.0
-    go (inl p) (inr q) = absurd (p.1 q.1.flushed)
-    go (inr p) (inl q) = absurd (q.1 p.1.flushed)
-    go (inr p) (inr q) = p.0 ∙ sym q.0
+fence-reason-unique T t j r s x y = grind (arith, nat_tests, fence-reasons)
 
 -- the reason of a flush
 pub reason-flush : (T : Recording) (t l i : ℕ) (r : Reason) → IsAct T i (Flushes t l) → IsReason T i r → IsFlushReason T t l i r
-reason-flush T t l i r is (OfFlush u k at why) =
-    let same = act-unique T i (Flushes u k) (Flushes t l) at is in
-    let thread : u ≡ t = cc in
-    let line : k ≡ l = cc in
-    subst (λ v. IsFlushReason T v l i r) thread (subst (λ m. IsFlushReason T u m i r) line why)
-reason-flush T t l i r is (OfClflush k at why) = let same = act-unique T i (Clflushes k) (Flushes t l) at is in cc
-reason-flush T t l i r is (OfFence u at why) = let same = act-unique T i (Fences u) (Flushes t l) at is in cc
+reason-flush T t l i r is h = grind (arith, nat_tests, act-unique)
 
 -- the reason of a clflush
 reason-clflush : (T : Recording) (l i : ℕ) (r : Reason) → IsAct T i (Clflushes l) → IsReason T i r → IsClflushReason T l i r
-reason-clflush T l i r is (OfFlush u k at why) = let same = act-unique T i (Flushes u k) (Clflushes l) at is in cc
-reason-clflush T l i r is (OfClflush k at why) =
-    let same = act-unique T i (Clflushes k) (Clflushes l) at is in
-    let line : k ≡ l = cc in
-    subst (λ m. IsClflushReason T m i r) line why
-reason-clflush T l i r is (OfFence u at why) = let same = act-unique T i (Fences u) (Clflushes l) at is in cc
+reason-clflush T l i r is h = grind (arith, nat_tests, act-unique)
 
 -- the reason of a fence
 reason-fence : (T : Recording) (t i : ℕ) (r : Reason) → IsAct T i (Fences t) → IsReason T i r → IsFenceReason T t i r
-reason-fence T t i r is (OfFlush u k at why) = let same = act-unique T i (Flushes u k) (Fences t) at is in cc
-reason-fence T t i r is (OfClflush k at why) = let same = act-unique T i (Clflushes k) (Fences t) at is in cc
-reason-fence T t i r is (OfFence u at why) =
-    let same = act-unique T i (Fences u) (Fences t) at is in
-    let thread : u ≡ t = cc in
-    subst (λ v. IsFenceReason T v i r) thread why
+reason-fence T t i r is h = grind (arith, nat_tests, act-unique)
 
 -- an event has one reason
 pub reason_is_unique : ReasonIsUnique

@@ -6,11 +6,11 @@ use Rattle.std.proofs.lemmas.Option.{none-some, same_Some}
 use Rattle.std.proofs.Math.ListN.{length-set, replicate}
 use Rattle.std.proofs.lemmas.List.{length-replicate, get_or-replicate}
 use Rattle.std.proofs.lemmas.Bool.{cases_lt, cases_eq, false≢true}
+use Rattle.std.proofs.lemmas.Bool.Decides.{nat_tests}
 use Rattle.pmt_model.specs.declared.event.Event.{Event}
 use Rattle.pmt_model.specs.Machine.{Act, Flushes, Clflushes, Fences}
 use Rattle.pmt_model.specs.Values.{Layout}
 use Rattle.pmt_model.specs.declared.event.Op.{Op}
-use Rattle.pmt_model.specs.declared.event.Op.TheVariants.{Clwb, ClflushOpt, Sfence, Mfence}
 use Rattle.pmt_model.specs.Traces.{Recording, IsTrace, IsEventIn, IsAct, act_of, act, count_at}
 use Rattle.pmt_model.specs.Fronts.{front_at}
 use Rattle.pmt_laws.proofs.Histories.{act-unique}
@@ -73,11 +73,7 @@ IsScannedTo T l i n flushed o = MatchOption o (count_at T l i ≤ front_at T l n
 -- an event that is no flush of the line and no fence
 scan-other : (T : Recording) (l i n : ℕ) (a : Act) (flushed : List Bool) (c : Cause) → IsAct T (suc n) a → ((t : ℕ) → a ≢ Flushes t l) → a ≢ Clflushes l → ((t : ℕ) → a ≢ Fences t) → i ≤ n →
     IsScanned T l i n flushed c → IsScanned T l i (suc n) flushed c
-scan-other T l i n a flushed c is flush clflush fence within s = record {
-  size = s.size;
-  marks = marks-other T l i n flushed s.marks (λ t at. flush t (act-unique T (suc n) a (Flushes t l) is at));
-  why = cause-other T l n i c (no_flush_of T l (suc n) a is flush clflush) (no_fence T (suc n) a is fence) within s.why;
-}
+scan-other T l i n a flushed c is flush clflush fence within s = grind (arith, nat_tests, marks-other, act-unique, cause-other, no_flush_of, no_fence)
 
 -- a flush, of this line or another
 scan-flush : (T : Recording) (l i n t k : ℕ) (flushed : List Bool) (c : Cause) → IsAct T (suc n) (Flushes t k) → t < 256 → i ≤ n → IsScanned T l i n flushed c →
@@ -153,11 +149,7 @@ scan-start T l i flushed start = record {
 
 -- the thread of an event is below 256
 pub thread-fits : (f : Layout) (t : ℕ) (op : Op) → t < 256 → IsThreadFit (act_of f t op)
-thread-fits f t (Clwb a) h = h
-thread-fits f t (ClflushOpt a) h = h
-thread-fits f t Sfence h = h
-thread-fits f t Mfence h = h
-thread-fits f t b h = tt
+thread-fits f t op h = grind (arith, nat_tests)
 
 -- what holds of each event of a list holds of the one at an index
 pub each-at : (f : Layout) (es : List Event) (n : ℕ) (e : Event) → AllByRecursion (IsEventIn f) es → slice_get es n ≡ Some e → IsEventIn f e
