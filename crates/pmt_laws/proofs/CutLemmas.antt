@@ -161,4 +161,4 @@ count-dropped l a h e = refl
 -- The cut has the same counts of stores at matching places.
 pub count-cut : (T : Recording) (K : List ℕ) (l n : ℕ) → IsSelection T K → count_at (cut T K) l (matching_place K n) ≡ count_at T l n
 count-cut T K l zero s = ap (count l) (history-zero T K s)
-count-cut v0 v1 l (suc nn) s = grind (arith, nat_tests, history-zero, next-step, count-same, count-dropped, count-cut v0 v1 l nn s)
+count-cut T K l (suc nn) s = grind (arith, nat_tests, history-zero, next-step, count-same, count-dropped, count-cut T K l nn s)

@@ -27,7 +27,7 @@ image-dropped persisted b a h e = refl
 pub image-cut : (T : Recording) (K : List ℕ) (persisted : ℕ → ℕ) (b n : ℕ) → IsSelection T K →
     image_of persisted (history (cut T K) (matching_place K n)) b ≡ image_of persisted (history T n) b
 image-cut T K persisted b zero s = ap (λ h. image_of persisted h b) (history-zero T K s)
-image-cut v0 v1 persisted b (suc nn) s = grind (arith, nat_tests, history-zero, next-step, image-same, count-cut, image-dropped, image-cut v0 v1 persisted b nn s)
+image-cut T K persisted b (suc nn) s = grind (arith, nat_tests, history-zero, next-step, image-same, count-cut, image-dropped, image-cut T K persisted b nn s)
 
 -- The image names of the persisted stores only how many they are.
 pub image-persisted : (p q : ℕ → ℕ) (h : List Act) (b : ℕ) → ((l : ℕ) → p l ≡ q l) → image_of p h b ≡ image_of q h b

@@ -81,7 +81,7 @@ mark-kept t l a g h e le = le
 -- The marks of the cut are at most those of the trace.
 pub mark-cut-le : (T : Recording) (K : List ℕ) (t l n : ℕ) → IsSelection T K → mark t l (history (cut T K) (matching_place K n)) ≤ mark t l (history T n)
 mark-cut-le T K t l zero s = rw (history-zero T K s) (omega arith)
-mark-cut-le v0 v1 t l (suc nn) s = grind (arith, nat_tests, history-zero, next-step, mark-kept, count-cut, mark-grows, mark-cut-le v0 v1 t l nn s)
+mark-cut-le T K t l (suc nn) s = grind (arith, nat_tests, history-zero, next-step, mark-kept, count-cut, mark-grows, mark-cut-le T K t l nn s)
 
 -- One more act of both keeps a front at most the other.
 front-kept : (l : ℕ) (a : Act) (g h : List Act) → count l g ≡ count l h → ((t : ℕ) → mark t l g ≤ mark t l h) → front l g ≤ front l h → front l (a ∷ g) ≤ front l (a ∷ h)
@@ -90,7 +90,7 @@ front-kept l a g h e marks le = grind (arith, nat_tests)
 -- The fronts of a cut are at most those of the trace, whatever is selected.
 pub cut-front-le : (T : Recording) (K : List ℕ) (l n : ℕ) → IsSelection T K → front_at (cut T K) l (matching_place K n) ≤ front_at T l n
 cut-front-le T K l zero s = rw (history-zero T K s) (omega arith)
-cut-front-le v0 v1 l (suc nn) s = grind (arith, nat_tests, history-zero, next-step, front-kept, count-cut, mark-cut-le, front-grows, cut-front-le v0 v1 l nn s)
+cut-front-le T K l (suc nn) s = grind (arith, nat_tests, history-zero, next-step, front-kept, count-cut, mark-cut-le, front-grows, cut-front-le T K l nn s)
 
 -- An event that changes a front is kept.
 pub raising-is-kept : (T : Recording) (l n : ℕ) (a : Act) → IsAct T (suc n) a → (front_at T l (suc n) ≡ front_at T l n → ⊥) → IsKept T (suc n)

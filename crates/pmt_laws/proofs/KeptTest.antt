@@ -47,11 +47,11 @@ is_flush_of t l a = false
 
 -- The test finds the fences of a thread.
 Decides-fence : (T : Recording) (t i : ℕ) → Decides (is_fence_of t (act_at T i)) (IsAct T i (Fences t))
-Decides-fence v0 t i = grind (arith, nat_tests, act-there, there-act, eq-eqb, eqb-true)
+Decides-fence T t i = grind (arith, nat_tests, act-there, there-act, eq-eqb, eqb-true)
 
 -- The test finds the flushes of a line by a thread.
 Decides-flush : (T : Recording) (t l i : ℕ) → Decides (is_flush_of t l (act_at T i)) (IsAct T i (Flushes t l))
-Decides-flush v0 t l i = grind (arith, nat_tests, act-there, there-act, and_from, eq-eqb, and_parts, eqb-true)
+Decides-flush T t l i = grind (arith, nat_tests, act-there, there-act, and_from, eq-eqb, and_parts, eqb-true)
 
 -- Of the m events after event n, a fence of the thread comes before any flush of the line by it, and the front just before that
 -- fence is below c.

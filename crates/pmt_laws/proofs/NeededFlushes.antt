@@ -31,7 +31,7 @@ useful-needed T i u = needed-by T u.thread u.line i u.fence u.is_flush u.is_fenc
 
 -- a kept flush is needed
 pub kept-needed : (T : Recording) (t l i : ℕ) → IsKept T i → IsAct T i (Flushes t l) → IsNeededFlush T t l i
-kept-needed v0 t l i v4 flush = grind (arith, nat_tests, act-unique, useful-needed)
+kept-needed T t l i is flush = grind (arith, nat_tests, act-unique, useful-needed)
 
 -- the fence that needs a flush raises the front of its line
 pub needed-raises : (T : Recording) (t l i : ℕ) (f : IsNeededFlush T t l i) → front_at T l f.before < front_at T l (suc f.before)

@@ -126,7 +126,7 @@ open-more T t l n flushes is open_ = record {
 
 -- a fence by the thread
 open-none : (T : Recording) (t n : ℕ) → IsAct T (suc n) (Fences t) → AreOpen T t (suc n) []
-open-none v0 t n fence = grind (arith, nat_tests, cases_lt, act-unique)
+open-none T t n fence = grind (arith, nat_tests, cases_lt, act-unique)
 
 -- the recursion gives the open flushes
 pub are_open : (T : Recording) (t n : ℕ) → AreOpen T t n (open_flushes t (history T n))

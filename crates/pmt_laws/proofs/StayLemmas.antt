@@ -32,7 +32,7 @@ last_store-dropped b a h free = refl
 -- A selection has the last stores of the trace at matching places.
 pub last_store-cut : (T : Recording) (K : List ℕ) (b n : ℕ) → IsSelection T K → last_store b (history (cut T K) (matching_place K n)) ≡ last_store b (history T n)
 last_store-cut T K b zero s = ap (last_store b) (history-zero T K s)
-last_store-cut v0 v1 b (suc nn) s = grind (arith, nat_tests, history-zero, next-step, last_store-same, count-cut, last_store-dropped, last_store-cut v0 v1 b nn s)
+last_store-cut T K b (suc nn) s = grind (arith, nat_tests, history-zero, next-step, last_store-same, count-cut, last_store-dropped, last_store-cut T K b nn s)
 
 -- One more act brings equal fronts up to a last store to equal ones.
 up_to-same :

@@ -90,7 +90,7 @@ first_flush : IsRedundantFlush every_finding 0 64 3 → ⊥
 first_flush redundant = let above : 2 ≤ 0 = (redundant_flush_by_fronts every_finding 0 64 3 (clwb 0 0x1000, refl, refl)).0 redundant in omega arith
 
 listed_is : (f : Finding) → HasFinding listed f → IsFinding every_finding f
-listed_is f v1 = grind (arith, nat_tests, first_lost, first_overwritten, second_lost, second_flush, empty_fence)
+listed_is f is = grind (arith, nat_tests, first_lost, first_overwritten, second_lost, second_flush, empty_fence)
 
 is_listed : (f : Finding) → IsFinding every_finding f → HasFinding listed f
 is_listed (Overwritten j i) o = grind (arith, nat_tests, stores)

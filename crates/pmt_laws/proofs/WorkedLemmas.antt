@@ -25,7 +25,7 @@ use Rattle.std.proofs.lemmas.Bool.Decides.{nat_tests}
 -- A flush for which there are more stores than the front and the open mark count is not redundant.
 pub unredundant_flush : (T : Recording) (t l i : ℕ) → IsAct T i (Flushes t l) →
     ¬ (count_at T l i ≤ max (front_at T l (i - 1)) (unwrap_or (open_mark t l (history T (i - 1))) 0)) → ¬ IsFinding T (RedundantFlush i)
-unredundant_flush v0 t l i is more v6 = grind (arith, nat_tests, act-unique, redundant_flush_by_fronts)
+unredundant_flush T t l i is more h = grind (arith, nat_tests, act-unique, redundant_flush_by_fronts)
 
 -- Nor is a clflush for which there are more than the front counts.
 pub unredundant_clflush : (T : Recording) (l i : ℕ) → IsAct T i (Clflushes l) → ¬ (count_at T l i ≤ front_at T l (i - 1)) → ¬ IsFinding T (RedundantFlush i)
@@ -160,7 +160,7 @@ two_rounds_says = record {
 
 -- After the second store comes a fence alone.
 fence_alone : (l : ℕ) → IsFlushedAfter store_after_flush l 3 → ⊥
-fence_alone l v1 = grind (arith, nat_tests, act-within, act-unique)
+fence_alone l is = grind (arith, nat_tests, act-within, act-unique)
 
 -- The line is flushed between its two stores.
 flushed_between : IsFinding store_after_flush (Overwritten 1 3) → ⊥
