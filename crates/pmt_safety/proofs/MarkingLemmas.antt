@@ -3,6 +3,7 @@ use Rattle.std.proofs.Common.{◌≡◌, ℕ, suc, ◌<◌, ◌≤◌, inl, inr,
 use Rattle.std.specs.Prelude.{if◌then◌else◌, ◌↔◌}
 use Rattle.std.specs.List.{AllByRecursion}
 use Rattle.std.proofs.lemmas.Bool.{cases_lt}
+use Rattle.std.proofs.lemmas.Bool.Decides.{nat_tests}
 use Rattle.pmt_model.specs.Machine.{Fences}
 use Rattle.pmt_model.specs.Traces.{Recording, history, count_at}
 use Rattle.pmt_model.specs.Fronts.{front, front_at}
@@ -16,10 +17,7 @@ use Rattle.pmt_safety.specs.Marking.{store_of, last_marked, FenceRaisesTo, Fence
 
 -- the later of two places counts the most
 count-max : (T : Recording) (l m n : ℕ) → count_at T l (max m n) ≡ max (count_at T l m) (count_at T l n)
-count-max T l m n = elim (cases_lt m n) [
-  | inl less ↦ let e : max m n ≡ n = omega arith in rw e (omega (arith, count-mono T l m n (omega arith)))
-  | inr more ↦ let e : max m n ≡ m = omega arith in rw e (omega (arith, count-mono T l n m more))
-]
+count-max T l m n = grind (arith, nat_tests, cases_lt, count-mono)
 
 -- what a flush marks counts as many as it covers
 store-counts : (T : Recording) (t n : ℕ) (f : Flushed) → IsOpenOf T t n f → count_at T f.line (store_of T f) ≡ f.stores

@@ -1,8 +1,9 @@
 -- Flushes and clflushes that are redundant, fences without flush, and stores that are never persisted.
-use Rattle.std.proofs.Common.{◌≡◌, ℕ, suc, ◌-◌, ◌<◌, ◌≤◌, ◌⊎◌, inl, inr, Bool, true, false, ◌==◌, ◌&&◌, List, [], ◌∷◌, length, max, unwrap_or, Some, None, refl, ap, eq-eqb, arith}
-use Rattle.std.specs.Prelude.{if◌then◌else◌, ◌||◌, not, ◌↔◌}
+use Rattle.std.proofs.Common.{◌≡◌, ℕ, suc, ◌-◌, ◌<◌, ◌≤◌, ◌⊎◌, inl, inr, Bool, true, false, ◌==◌, ◌&&◌, List, [], ◌∷◌, length, max, unwrap_or, refl, ap, arith}
+use Rattle.std.specs.Prelude.{if◌then◌else◌, ◌||◌, ◌↔◌}
 use Rattle.std.proofs.lemmas.Bool.{cases_lt, cases_eq, ne_eqb}
-use Rattle.pmt_model.specs.Machine.{Act, Stores, Flushes, Clflushes, Fences, count}
+use Rattle.std.proofs.lemmas.Bool.Decides.{nat_tests}
+use Rattle.pmt_model.specs.Machine.{Act, Stores, Flushes, Clflushes, count}
 use Rattle.pmt_model.specs.Traces.{Recording, history, count_at}
 use Rattle.pmt_model.specs.Fronts.{front, front_at, mark, open_mark}
 use Rattle.pmt_model.specs.Findings.{IsRedundantFlush, IsRedundantClflush}
@@ -32,11 +33,7 @@ all-safe T l n = (
 -- a thread that has flushed the line since its last store marks all of them
 flushed-marks : (t l : ℕ) (h : List Act) → has_flushed t l h ≡ true → count l h ≤ mark t l h
 flushed-marks t l [] had = omega arith
-flushed-marks t l (Stores k w ∷ h) had = go (k == l) (flushed-marks t l h) had
-  where
-    go : (b : Bool) → (has_flushed t l h ≡ true → count l h ≤ mark t l h) → (not b && has_flushed t l h) ≡ true → (if b then suc (count l h) else count l h) ≤ mark t l h
-    go true before had = absurd (let never : false ≡ true = had in cc)
-    go false before had = before had
+flushed-marks t l (Stores k w ∷ h) had = grind (arith, nat_tests, flushed-marks t l h)
 flushed-marks t l (Flushes u k ∷ h) had = go ((u == t) && (k == l)) (flushed-marks t l h) had
   where
     go : (b : Bool) → (has_flushed t l h ≡ true → count l h ≤ mark t l h) → (b || has_flushed t l h) ≡ true → count l h ≤ (if b then count l h else mark t l h)
@@ -47,12 +44,7 @@ flushed-marks t l (a ∷ h) had = flushed-marks t l h had
 -- and one that marks all of them, where there is one, has flushed it since
 marks-flushed : (t l : ℕ) (h : List Act) → 0 < count l h → count l h ≤ mark t l h → has_flushed t l h ≡ true
 marks-flushed t l [] some all = absurd (omega arith)
-marks-flushed t l (Stores k w ∷ h) some all = go (k == l) (marks-flushed t l h) some all
-  where
-    go : (b : Bool) → (0 < count l h → count l h ≤ mark t l h → has_flushed t l h ≡ true) → 0 < (if b then suc (count l h) else count l h) → (if b then suc (count l h) else count l h) ≤ mark t l h →
-        (not b && has_flushed t l h) ≡ true
-    go true before some all = absurd (omega (arith, all, mark-le-count t l h))
-    go false before some all = before some all
+marks-flushed t l (Stores k w ∷ h) some all = grind (arith, nat_tests, mark-le-count, marks-flushed t l h)
 marks-flushed t l (Flushes u k ∷ h) some all = go ((u == t) && (k == l)) (marks-flushed t l h) some all
   where
     go : (b : Bool) → (0 < count l h → count l h ≤ mark t l h → has_flushed t l h ≡ true) → 0 < count l h → count l h ≤ (if b then count l h else mark t l h) → (b || has_flushed t l h) ≡ true
@@ -63,34 +55,11 @@ marks-flushed t l (a ∷ h) some all = marks-flushed t l h some all
 -- an open mark is the thread's, and one that is no more open is in the front
 open-marked : (t l : ℕ) (h : List Act) → (unwrap_or (open_mark t l h) 0 ≤ mark t l h) × (mark t l h ≤ max (front l h) (unwrap_or (open_mark t l h) 0))
 open-marked t l [] = (omega arith, omega arith)
-open-marked t l (Flushes u k ∷ h) = go ((u == t) && (k == l)) (open-marked t l h)
-  where
-    go : (b : Bool) → (unwrap_or (open_mark t l h) 0 ≤ mark t l h) × (mark t l h ≤ max (front l h) (unwrap_or (open_mark t l h) 0)) →
-        (unwrap_or (if b then Some (count l h) else open_mark t l h) 0 ≤ (if b then count l h else mark t l h)) × ((if b then count l h else mark t l h) ≤ max (front l h) (unwrap_or (if b then Some (count l h) else open_mark t l h) 0))
-    go true before = (omega arith, omega arith)
-    go false before = before
-open-marked t l (Clflushes k ∷ h) = let before = open-marked t l h in (before.0, omega (arith, before.1, front-grows l (Clflushes k) h))
-open-marked t l (Fences u ∷ h) = go (cases_eq u t) (open-marked t l h)
-  where
-    go : (u ≡ t) ⊎ (u ≡ t → ⊥) → (unwrap_or (open_mark t l h) 0 ≤ mark t l h) × (mark t l h ≤ max (front l h) (unwrap_or (open_mark t l h) 0)) →
-        (unwrap_or (if u == t then None else open_mark t l h) 0 ≤ mark t l h) × (mark t l h ≤ max (max (front l h) (mark u l h)) (unwrap_or (if u == t then None else open_mark t l h) 0))
-    go (inl same) before = let e = eq-eqb u t same in let own = ap (λ v. mark v l h) same in rw e (omega arith, omega (arith, own))
-    go (inr other) before = let e = ne_eqb u t other in rw e (before.0, omega (arith, before.1))
-open-marked t l (a ∷ h) = open-marked t l h
+open-marked t l (hd ∷ tl) = grind (arith, nat_tests, front-grows, cases_eq, ne_eqb, open-marked t l tl)
 
 -- the front or the open mark counts all stores exactly where the front does, or the thread has flushed the line since the last one
 covered : (t l : ℕ) (h : List Act) → (count l h ≤ max (front l h) (unwrap_or (open_mark t l h) 0)) ↔ ((count l h ≤ front l h) ⊎ (has_flushed t l h ≡ true))
-covered t l h = (there, back)
-  where
-    there : count l h ≤ max (front l h) (unwrap_or (open_mark t l h) 0) → (count l h ≤ front l h) ⊎ (has_flushed t l h ≡ true)
-    there all = elim (cases_lt (front l h) (count l h)) [
-      | inl below ↦ inr (marks-flushed t l h (omega (arith, below)) (omega (arith, all, below, (open-marked t l h).0)))
-      | inr safe ↦ inl safe
-    ]
-
-    back : (count l h ≤ front l h) ⊎ (has_flushed t l h ≡ true) → count l h ≤ max (front l h) (unwrap_or (open_mark t l h) 0)
-    back (inl safe) = omega (arith, safe)
-    back (inr had) = omega (arith, flushed-marks t l h had, (open-marked t l h).1)
+covered t l h = grind (arith, nat_tests, cases_lt, marks-flushed, open-marked, flushed-marks)
 
 pub redundant_flush_by_stores : RedundantFlushByStores
 redundant_flush_by_stores T t l n is = (there, back)

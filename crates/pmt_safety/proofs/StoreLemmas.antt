@@ -2,6 +2,7 @@
 use Rattle.std.proofs.Common.{◌≡◌, ℕ, zero, suc, ◌≤◌, max, ◌⊎◌, inl, inr, Bool, true, false, ◌==◌, ◌&&◌, List, ◌∷◌, length, refl, sym, ap, subst, ◌∙◌, eqb-true, arith}
 use Rattle.std.specs.Prelude.{if◌then◌else◌}
 use Rattle.std.proofs.lemmas.Bool.{cases_lt}
+use Rattle.std.proofs.lemmas.Bool.Decides.{nat_tests}
 use Rattle.pmt_model.specs.Values.{Written}
 use Rattle.pmt_model.specs.Machine.{Act, Stores, Flushes, Clflushes, Fences, Asserts, count}
 use Rattle.pmt_model.specs.Traces.{Recording, IsAct, history, count_at}
@@ -69,10 +70,7 @@ count-marked T t l (suc n) = elim (history-step T n) [
 
 -- the later of two places counts the most
 count-max : (T : Recording) (l m n : ℕ) → count_at T l (max m n) ≡ max (count_at T l m) (count_at T l n)
-count-max T l m n = elim (cases_lt m n) [
-  | inl less ↦ let e : max m n ≡ n = omega arith in rw e (omega (arith, count-mono T l m n (omega arith)))
-  | inr more ↦ let e : max m n ≡ m = omega arith in rw e (omega (arith, count-mono T l n m more))
-]
+count-max T l m n = grind (arith, nat_tests, cases_lt, count-mono)
 
 -- and the last safe store counts as many as the front
 pub count-safe : (T : Recording) (l n : ℕ) → count_at T l (safe_store_at T l n) ≡ front_at T l n
