@@ -1,5 +1,5 @@
 -- What a reader of lines has ahead, from one read to the next.
-use Rattle.std.proofs.Common.{◌≡◌, ℕ, ◌+◌, ◌<◌, nat_lt, Bool, true, false, List, ◌++◌, length, take, Option, Some, None, IfSome, refl, sym, ap, ◌∙◌, subst, arith, append_assoc, Ok}
+use Rattle.std.proofs.Common.{◌≡◌, ℕ, ◌+◌, ◌<◌, nat_lt, Bool, true, false, List, ◌++◌, length, take, Option, Some, None, refl, sym, ap, ◌∙◌, subst, arith, append_assoc, Ok}
 use Rattle.std.proofs.Math.Seq.{take-append-add}
 use Rattle.std.proofs.lemmas.List.{length-append, take_all}
 use Rattle.std.proofs.lemmas.Bool.{lt-ltb, le-ltb, ltb-true, ltb-false}
@@ -33,19 +33,6 @@ ahead-refilled None new held piece before left took e = tt
 ahead-refilled (Some xs) None held piece before left took e = absurd took
 ahead-refilled (Some xs) (Some ys) held piece before left took e =
     ap Some (sym (ap (λ n. ahead_of held n xs) e ∙ ap (ahead_of held (left + length piece)) took ∙ same_ahead held piece ys left))
-
-pub KeepsKnown-trans : {A : Type 0} (a b c : Option A) → KeepsKnown a b → KeepsKnown b c → KeepsKnown a c
-KeepsKnown-trans None b c p q = tt
-KeepsKnown-trans (Some x) b c p q = let q' : KeepsKnown (Some x) c = subst (λ o. KeepsKnown o c) p q in q'
-
-pub KeepsKnown-refl : {A : Type 0} (a : Option A) → KeepsKnown a a
-KeepsKnown-refl None = tt
-KeepsKnown-refl (Some x) = refl
-
--- what holds of what is known later held before
-pub IfSome-kept : {A : Type 0} (P : A → Type 0) (a b : Option A) → KeepsKnown a b → IfSome b P → IfSome a P
-IfSome-kept P None b p q = tt
-IfSome-kept P (Some x) b p q = let q' : IfSome (Some x) P = subst (λ o. IfSome o P) p q in q'
 
 module _ {R : Type 0} (remaining : R → Option (List ℕ)) where
   -- the piece went to the front, and another was read

@@ -30,30 +30,24 @@ persist-checked r = go (is_span r)
 
 pub persist-none : (fields : List (List ℕ)) → None ≡ first_span fields → Err BadField ≡ op_of_fields words.IsPersist fields
 unfolding op_of_fields persist_in
-persist-none [] e = refl
-persist-none (addr ∷ []) e = refl
 persist-none (addr ∷ len ∷ []) e = go (span_in addr len) e
   where
     go : (o : Option Span) → None ≡ option_map (kept_span []) o → Err BadField ≡ required BadField (option_map IsPersist o) op_checked
     go None e = refl
     go (Some r) e = cc
-persist-none (addr ∷ len ∷ next ∷ rest) e = refl
+persist-none a e = refl
 
 pub persist-more : (fields left : List (List ℕ)) (a n : ℕ) → Some ((a, n), left) ≡ first_span fields → (left ≡ [] → ⊥) → Err BadField ≡ op_of_fields words.IsPersist fields
 unfolding op_of_fields persist_in
-persist-more [] left a n e more = refl
-persist-more (addr ∷ []) left a n e more = refl
 persist-more (addr ∷ len ∷ []) left a n e more = go (span_in addr len) e
   where
     go : (o : Option Span) → Some ((a, n), left) ≡ option_map (kept_span []) o → Err BadField ≡ required BadField (option_map IsPersist o) op_checked
     go None e = refl
     go (Some r) e = let same : ◌≡◌ {A = (ℕ × ℕ) × List (List ℕ)} ((a, n), left) (kept_span [] r) = cc in absurd (more (ap (λ p. p.1) same))
-persist-more (addr ∷ len ∷ next ∷ rest) left a n e more = refl
+persist-more b left a n e more = refl
 
 pub persist-last : (fields left : List (List ℕ)) (a n : ℕ) → Some ((a, n), left) ≡ first_span fields → left ≡ [] → persisted_of (span_checked a n) ≡ op_of_fields words.IsPersist fields
 unfolding op_of_fields persist_in
-persist-last [] left a n e last = cc
-persist-last (addr ∷ []) left a n e last = cc
 persist-last (addr ∷ len ∷ []) left a n e last = go (span_in addr len) e
   where
     go : (o : Option Span) → Some ((a, n), left) ≡ option_map (kept_span []) o → persisted_of (span_checked a n) ≡ required BadField (option_map IsPersist o) op_checked
@@ -69,6 +63,7 @@ persist-last (addr ∷ len ∷ next ∷ rest) left a n e last = go (span_in addr
     go (Some r) e =
         let same : ◌≡◌ {A = (ℕ × ℕ) × List (List ℕ)} ((a, n), left) (kept_span (next ∷ rest) r) = cc in
         let never : ◌≡◌ {A = List (List ℕ)} [] (next ∷ rest) = sym last ∙ ap (λ p. p.1) same in cc
+persist-last b left a n e last = cc
 
 -- ---- isOrderedBefore
 
@@ -86,28 +81,17 @@ ordered-checked r q = go (is_span r) (is_span q)
     go true false = refl
     go false u = refl
 
-ordered_from : Option Span → Option Span → Option Op
-ordered_from o p = o >>= λ r. (p >>= λ q. Some (IsOrderedBefore r q))
-
 pub ordered-none : (fields : List (List ℕ)) → None ≡ first_span fields → Err BadField ≡ op_of_fields words.IsOrderedBefore fields
 unfolding op_of_fields ordered_in
-ordered-none [] e = refl
-ordered-none (a ∷ []) e = refl
-ordered-none (a ∷ b ∷ []) e = refl
-ordered-none (a ∷ b ∷ c ∷ []) e = refl
 ordered-none (a ∷ b ∷ c ∷ d ∷ []) e = go (span_in a b) e
   where
     go : (o : Option Span) → None ≡ option_map (kept_span (c ∷ d ∷ [])) o → Err BadField ≡ required BadField (o >>= λ r. (span_in c d >>= λ q. Some (IsOrderedBefore r q))) op_checked
     go None e = refl
     go (Some r) e = cc
-ordered-none (a ∷ b ∷ c ∷ d ∷ next ∷ rest) e = refl
+ordered-none x e = refl
 
 pub ordered-one : (fields left : List (List ℕ)) (a n : ℕ) → Some ((a, n), left) ≡ first_span fields → None ≡ first_span left → Err BadField ≡ op_of_fields words.IsOrderedBefore fields
 unfolding op_of_fields ordered_in
-ordered-one [] left x n e f = refl
-ordered-one (a ∷ []) left x n e f = refl
-ordered-one (a ∷ b ∷ []) left x n e f = refl
-ordered-one (a ∷ b ∷ c ∷ []) left x n e f = refl
 ordered-one (a ∷ b ∷ c ∷ d ∷ []) left x n e f = go (span_in a b) e
   where
     go : (o : Option Span) → Some ((x, n), left) ≡ option_map (kept_span (c ∷ d ∷ [])) o → Err BadField ≡ required BadField (o >>= λ r. (span_in c d >>= λ q. Some (IsOrderedBefore r q))) op_checked
@@ -119,7 +103,7 @@ ordered-one (a ∷ b ∷ c ∷ d ∷ []) left x n e f = go (span_in a b) e
         none : (o : Option Span) → None ≡ option_map (kept_span []) o → Err BadField ≡ required BadField (o >>= λ q. Some (IsOrderedBefore r q)) op_checked
         none None e = refl
         none (Some q) e = cc
-ordered-one (a ∷ b ∷ c ∷ d ∷ next ∷ rest) left x n e f = refl
+ordered-one y left x n e f = refl
 
 -- the two spans of four fields or more, and what is left
 two_spans : (a b c d : List ℕ) (rest left after : List (List ℕ)) (x n y m : ℕ) → Some ((x, n), left) ≡ first_span (a ∷ b ∷ c ∷ d ∷ rest) → Some ((y, m), after) ≡ first_span left →
@@ -135,16 +119,12 @@ two_spans a b c d rest left after x n y m e f = go (span_in a b) e
 
 pub ordered-more : (fields left after : List (List ℕ)) (x n y m : ℕ) → Some ((x, n), left) ≡ first_span fields → Some ((y, m), after) ≡ first_span left → (after ≡ [] → ⊥) → Err BadField ≡ op_of_fields words.IsOrderedBefore fields
 unfolding op_of_fields ordered_in
-ordered-more [] left after x n y m e f more = refl
-ordered-more (a ∷ []) left after x n y m e f more = refl
-ordered-more (a ∷ b ∷ []) left after x n y m e f more = refl
-ordered-more (a ∷ b ∷ c ∷ []) left after x n y m e f more = refl
 ordered-more (a ∷ b ∷ c ∷ d ∷ []) left after x n y m e f more = go (span_in c d) (two_spans a b c d [] left after x n y m e f).1
   where
     go : (o : Option Span) → Some ((y, m), after) ≡ option_map (kept_span []) o → Err BadField ≡ required BadField (ordered_in (a ∷ b ∷ c ∷ d ∷ [])) op_checked
     go None e = absurd (cc)
     go (Some q) e = let same : ◌≡◌ {A = (ℕ × ℕ) × List (List ℕ)} ((y, m), after) (kept_span [] q) = cc in absurd (more (ap (λ p. p.1) same))
-ordered-more (a ∷ b ∷ c ∷ d ∷ next ∷ rest) left after x n y m e f more = refl
+ordered-more z left after x n y m e f more = refl
 
 -- after two or three fields there is no second span
 no_second : (a b : List ℕ) (rest left after : List (List ℕ)) (x n y m : ℕ) → Some ((x, n), left) ≡ option_map (kept_span rest) (span_in a b) → Some ((y, m), after) ≡ first_span left → first_span rest ≡ None → ⊥
@@ -159,8 +139,6 @@ no_second a b rest left after x n y m e f none = go (span_in a b) e
 pub ordered-last : (fields left after : List (List ℕ)) (x n y m : ℕ) → Some ((x, n), left) ≡ first_span fields → Some ((y, m), after) ≡ first_span left → after ≡ [] →
     ordered_of (span_checked x n) (span_checked y m) ≡ op_of_fields words.IsOrderedBefore fields
 unfolding op_of_fields ordered_in
-ordered-last [] left after x n y m e f last = cc
-ordered-last (a ∷ []) left after x n y m e f last = cc
 ordered-last (a ∷ b ∷ []) left after x n y m e f last = absurd (no_second a b [] left after x n y m e f refl)
 ordered-last (a ∷ b ∷ c ∷ []) left after x n y m e f last = absurd (no_second a b (c ∷ []) left after x n y m e f refl)
 ordered-last (a ∷ b ∷ c ∷ d ∷ []) left after x n y m e f last =
@@ -183,6 +161,7 @@ ordered-last (a ∷ b ∷ c ∷ d ∷ next ∷ rest) left after x n y m e f last
     go (Some q) e =
         let same : ◌≡◌ {A = (ℕ × ℕ) × List (List ℕ)} ((y, m), after) (kept_span (next ∷ rest) q) = cc in
         let never : ◌≡◌ {A = List (List ℕ)} [] (next ∷ rest) = sym last ∙ ap (λ p. p.1) same in cc
+ordered-last d left after x n y m e f last = cc
 
 -- ---- The thread
 
@@ -203,13 +182,11 @@ op_checks op r w = checked OutOfRange r (checked CrossesWord w (Ok op))
 
 thread_passes : (t : ℕ) (op : Op) (r w : Bool) → is_thread t ≡ true → with_thread t (op_checks op r w) ≡ checked OutOfRange (is_thread t && r) (checked CrossesWord w (Ok (made t op)))
 thread_passes t op true true e = rw e refl
-thread_passes t op true false e = rw e refl
-thread_passes t op false w e = rw e refl
+thread_passes t op a b e = rw e refl
 
 thread_fails : (t : ℕ) (op : Op) (r w : Bool) → is_thread t ≡ false → with_thread t (op_checks op r w) ≡ Err OutOfRange
 thread_fails t op true true e = rw e refl
-thread_fails t op true false e = rw e refl
-thread_fails t op false w e = rw e refl
+thread_fails t op a b e = rw e refl
 
 thread_joins : (t : ℕ) (op : Op) → with_thread (capped t) (op_checked op) ≡ event_checked (made t op)
 thread_joins t op = elim (cases_lt t 256) [

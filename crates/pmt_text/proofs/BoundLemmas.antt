@@ -58,10 +58,9 @@ spaced-op (Store w) h = omega (arith, length-address w.addr h.address, length-he
 spaced-op (Clwb a) h = omega (arith, length-address a h)
 spaced-op (ClflushOpt a) h = omega (arith, length-address a h)
 spaced-op (Clflush a) h = omega (arith, length-address a h)
-spaced-op Sfence h = omega arith
-spaced-op Mfence h = omega arith
 spaced-op (IsPersist r) h = omega (arith, length-start r h, length-len r h)
 spaced-op (IsOrderedBefore r q) h = omega (arith, length-start r h.0, length-len r h.0, length-start q h.1, length-len q h.1)
+spaced-op b h = omega arith
 
 length-event_text : (e : Event) → IsEvent e → length (event_text e) ≤ 60
 unfolding event_text event_line

@@ -129,17 +129,13 @@ module _ {R : Type 0} (remaining : R → Option (List ℕ)) (old new : LineReade
   pub failed-events : (f : Layout) (given : ℕ) (e : SourceError) → Finds remaining old (Err e) new → Faults (coming_from remaining (Some f) given old) e
   failed-events f given (Text t) finds = absurd finds
   failed-events f given TooMany finds = events_much f given (ahead remaining old) finds
-  failed-events f given Read finds = tt
-  failed-events f given OutOfMemory finds = tt
-  failed-events f given Failed finds = tt
+  failed-events f given a finds = tt
 
   -- a search for the header that failed
   pub failed-header : (e : SourceError) → Finds remaining old (Err e) new → Faults (coming_from remaining None 0 old) e
   failed-header (Text t) finds = absurd finds
   failed-header TooMany finds = header_much (ahead remaining old) finds
-  failed-header Read finds = tt
-  failed-header OutOfMemory finds = tt
-  failed-header Failed finds = tt
+  failed-header a finds = tt
 
 module _ {R : Type 0} (remaining : R → Option (List ℕ)) (old new : LineReader R) (finds : Finds remaining old (Ok End) new) where
   -- the text ends with an LF

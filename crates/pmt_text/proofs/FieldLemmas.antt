@@ -21,9 +21,8 @@ unfolding address_in number_in address
 address_in-prefixed rest = refl
 
 address_in-front : (field : List ℕ) → 2 ≤ length field → get_or field 0 0 ≡ 48 → get_or field 1 0 ≡ 120 → address_in field ≡ number_in 16 (drop 2 field)
-address_in-front [] l a b = absurd (omega arith)
-address_in-front (c ∷ []) l a b = absurd (omega arith)
 address_in-front (c ∷ d ∷ rest) l a b = ap₂ (λ (x y : ℕ). address_in (x ∷ y ∷ rest)) a b ∙ address_in-prefixed rest
+address_in-front z l a b = absurd (omega arith)
 
 -- what an address is read as, where it begins with 0x
 pub reads-address : (field : List ℕ) (result : Option ℕ) → 2 ≤ length field → get_or field 0 0 ≡ 48 → get_or field 1 0 ≡ 120 → result ≡ option_map capped (number_in 16 (drop 2 field)) → result ≡ option_map capped (address_in field)
@@ -120,8 +119,6 @@ length-hex_bytes (b ∷ bytes) = let more = length-hex_bytes bytes in omega arit
 pub hex_bytes-paired : (field : List ℕ) (n : ℕ) → length field ≡ n + n → AreDigits 16 field → hex_bytes (paired field) ≡ field
 unfolding hex_bytes
 hex_bytes-paired [] n l h = refl
-hex_bytes-paired (x ∷ []) n l h = absurd (omega arith)
-hex_bytes-paired (x ∷ y ∷ rest) zero l h = absurd (omega arith)
 hex_bytes-paired (x ∷ y ∷ rest) (suc n) l h =
     let a : digit_value x ≡ digit_of x = digit_value-digit_of x h.0 in
     let b : digit_value y ≡ digit_of y = digit_value-digit_of y h.1.0 in
@@ -133,23 +130,22 @@ hex_bytes-paired (x ∷ y ∷ rest) (suc n) l h =
     ap₂ (λ (u v : ℕ). glyph u ∷ glyph v ∷ hex_bytes (paired rest)) first second
     ∙ ap₂ (λ (u v : ℕ). u ∷ v ∷ hex_bytes (paired rest)) (glyph-digit_of x high) (glyph-digit_of y low)
     ∙ ap (λ (xs : List ℕ). x ∷ y ∷ xs) (hex_bytes-paired rest n (omega arith) h.1.1)
+hex_bytes-paired c d l h = absurd (omega arith)
 
 pub length-paired : (field : List ℕ) (n : ℕ) → length field ≡ n + n → length (paired field) ≡ n
 length-paired [] n l = omega arith
-length-paired (x ∷ []) n l = absurd (omega arith)
-length-paired (x ∷ y ∷ rest) zero l = absurd (omega arith)
 length-paired (x ∷ y ∷ rest) (suc n) l = let more = length-paired rest n (omega arith) in omega arith
+length-paired a b l = absurd (omega arith)
 
 -- the byte that a pair of digits writes
 pub get_or-paired : (field : List ℕ) (k : ℕ) → k + k + 1 < length field → get_or (paired field) k 0 ≡ 16 * digit_value (get_or field (k + k) 0) + digit_value (get_or field (k + k + 1) 0)
-get_or-paired [] k l = absurd (omega arith)
-get_or-paired (x ∷ []) k l = absurd (omega arith)
 get_or-paired (x ∷ y ∷ rest) zero l = refl
 get_or-paired (x ∷ y ∷ rest) (suc k) l =
     let even : suc k + suc k ≡ suc (suc (k + k)) = omega arith in
     let odd : suc k + suc k + 1 ≡ suc (suc (k + k + 1)) = omega arith in
     get_or-paired rest k (omega arith)
     ∙ ap₂ (λ (i j : ℕ). 16 * digit_value (get_or (x ∷ y ∷ rest) i 0) + digit_value (get_or (x ∷ y ∷ rest) j 0)) (sym even) (sym odd)
+get_or-paired a k l = absurd (omega arith)
 
 bytes_in-other : (field : List ℕ) → ((bytes : List ℕ) → hex_bytes bytes ≡ field → ⊥) → bytes_in field ≡ None
 unfolding bytes_in

@@ -23,20 +23,17 @@ use Rattle.pmt_text.proofs.WordLemmas.{word_text-word_in}
 
 store_read : (fields : List (List ℕ)) (op : Op) → store_in fields ≡ Some op → arguments_of op ≡ fields
 unfolding store_in
-store_read [] op e = cc
-store_read (addr ∷ []) op e = cc
 store_read (addr ∷ bytes ∷ []) op e =
     let a = bind-some (address_in addr) (λ a. bytes_in bytes >>= λ bs. Some (Store (record { addr = a; bytes = bs }))) op e in
     let bs = bind-some (bytes_in bytes) (λ bs. Some (Store (record { addr = a.0; bytes = bs }))) op a.2 in
     let made : Store (record { addr = a.0; bytes = bs.0 }) ≡ op = let some = bs.2 in cc in
     subst (λ (o : Op). arguments_of o ≡ addr ∷ bytes ∷ []) made (ap₂ (λ (x y : List ℕ). x ∷ y ∷ []) (address-address_in addr a.0 a.1) (hex_bytes-bytes_in bytes bs.0 bs.1))
-store_read (addr ∷ bytes ∷ next ∷ rest) op e = cc
+store_read b op e = cc
 
 flushed_read : (fields : List (List ℕ)) (a : ℕ) → flushed_in fields ≡ Some a → address a ∷ [] ≡ fields
 unfolding flushed_in
-flushed_read [] a e = cc
 flushed_read (addr ∷ []) a e = ap (λ (x : List ℕ). x ∷ []) (address-address_in addr a e)
-flushed_read (addr ∷ next ∷ rest) a e = cc
+flushed_read b a e = cc
 
 span_read : (addr len : List ℕ) (r : Span) → span_in addr len ≡ Some r → (address r.addr ≡ addr) × (numeral 10 r.len ≡ len)
 unfolding span_in
@@ -48,20 +45,14 @@ span_read addr len r e =
 
 persist_read : (fields : List (List ℕ)) (op : Op) → persist_in fields ≡ Some op → arguments_of op ≡ fields
 unfolding persist_in
-persist_read [] op e = cc
-persist_read (addr ∷ []) op e = cc
 persist_read (addr ∷ len ∷ []) op e =
     let r = map-some (span_in addr len) IsPersist op e in
     let parts = span_read addr len r.0 r.1 in
     subst (λ (o : Op). arguments_of o ≡ addr ∷ len ∷ []) r.2 (ap₂ (λ (x y : List ℕ). x ∷ y ∷ []) parts.0 parts.1)
-persist_read (addr ∷ len ∷ next ∷ rest) op e = cc
+persist_read a op e = cc
 
 ordered_read : (fields : List (List ℕ)) (op : Op) → ordered_in fields ≡ Some op → arguments_of op ≡ fields
 unfolding ordered_in
-ordered_read [] op e = cc
-ordered_read (a ∷ []) op e = cc
-ordered_read (a ∷ b ∷ []) op e = cc
-ordered_read (a ∷ b ∷ c ∷ []) op e = cc
 ordered_read (a ∷ b ∷ c ∷ d ∷ []) op e =
     let r = bind-some (span_in a b) (λ r. span_in c d >>= λ q. Some (IsOrderedBefore r q)) op e in
     let q = bind-some (span_in c d) (λ q. Some (IsOrderedBefore r.0 q)) op r.2 in
@@ -70,7 +61,7 @@ ordered_read (a ∷ b ∷ c ∷ d ∷ []) op e =
     let second = span_read c d q.0 q.1 in
     subst (λ (o : Op). arguments_of o ≡ a ∷ b ∷ c ∷ d ∷ []) made
     (ap₂ (λ (x y : List ℕ). x ∷ y ∷ address q.0.addr ∷ numeral 10 q.0.len ∷ []) first.0 first.1 ∙ ap₂ (λ (x y : List ℕ). a ∷ b ∷ x ∷ y ∷ []) second.0 second.1)
-ordered_read (a ∷ b ∷ c ∷ d ∷ next ∷ rest) op e = cc
+ordered_read z op e = cc
 
 fence_read : (op made : Op) (fields : List (List ℕ)) → arguments_of made ≡ [] → none_in made fields ≡ Some op → arguments_of op ≡ fields
 fence_read op made [] args e = let same : made ≡ op = cc in subst (λ (o : Op). arguments_of o ≡ []) same args

@@ -21,10 +21,9 @@ reads-empty base (c ∷ cs) b e = absurd (omega arith)
 
 -- a field of more bytes that begins with 0 is not read
 pub reads-leading_zero : (base : ℕ) (field : List ℕ) → IsBase base → get_or field 0 0 ≡ 48 → 1 < length field → None ≡ number_read base field
-reads-leading_zero base [] b e l = absurd (omega arith)
-reads-leading_zero base (c ∷ []) b e l = absurd (omega arith)
 reads-leading_zero base (c ∷ d ∷ cs) b e l =
     none_read base (c ∷ d ∷ cs) (number_in-other base (c ∷ d ∷ cs) (λ n same. no_numeral-leading_zero base n d cs b (same ∙ ap (λ (x : ℕ). x ∷ d ∷ cs) e)))
+reads-leading_zero base a b e l = absurd (omega arith)
 
 -- a field with a byte that is no digit is not read
 pub reads-other : (base : ℕ) (field : List ℕ) (i : ℕ) → IsBase base → i < length field → base ≤ digit_of (get_or field i 0) → None ≡ number_read base field

@@ -1,9 +1,9 @@
 -- The writer of a number: one digit on, and the room that it needs.
-use Rattle.std.proofs.Common.{◌≡◌, ℕ, zero, suc, ◌+◌, ◌-◌, ◌*◌, ◌/◌, ◌%◌, ◌^◌, ◌<◌, ◌≤◌, inl, inr, List, [], ◌∷◌, ◌++◌, map, length, drop, set, refl, sym, ◌∙◌, ap, ap₂, arith, append_assoc, pow-suc, div-lt_iff_lt-mul, le-div_iff_mul-le, mul-le-mul_left, one-mul, take, get_or, flat_map}
+use Rattle.std.proofs.Common.{◌≡◌, ℕ, zero, suc, ◌+◌, ◌-◌, ◌*◌, ◌/◌, ◌%◌, ◌^◌, ◌<◌, ◌≤◌, inl, inr, List, [], ◌∷◌, ◌++◌, map, length, drop, set, refl, sym, ◌∙◌, ap, ap₂, arith, append_assoc, pow-suc, div-lt_iff_lt-mul, le-div_iff_mul-le, mul-le-mul_left, one-mul}
 use Rattle.std.specs.Int.Digits.{digits_of}
-use Rattle.std.proofs.lemmas.List.{map-append, drop-set, take_more, flat_map_more}
+use Rattle.std.proofs.lemmas.List.{map-append, drop-set}
 use Rattle.std.proofs.lemmas.Int.Digits.{digits_of_step}
-use Rattle.pmt_text.specs.Spelling.{glyph, numeral, hex_pair, hex_bytes}
+use Rattle.pmt_text.specs.Spelling.{glyph, numeral, hex_pair}
 use Rattle.pmt_text.specs.Reading.{IsBase}
 use Rattle.pmt_text.proofs.NumeralLemmas.{base-low, numeral-above, numeral-zero, digits_of-digit}
 
@@ -66,15 +66,12 @@ numeral-fours n l =
 
 -- a number of two digits or more has room for two
 pub room-two : (n at : ℕ) → 10 ≤ n → n < 10 ^ at → 2 ≤ at
-room-two n zero l h = absurd (omega arith)
-room-two n (suc zero) l h = absurd (omega arith)
 room-two n (suc (suc at)) l h = omega arith
+room-two n a l h = absurd (omega arith)
 
 pub room-three : (n at : ℕ) → 100 ≤ n → n < 10 ^ at → 3 ≤ at
-room-three n zero l h = absurd (omega arith)
-room-three n (suc zero) l h = absurd (omega arith)
-room-three n (suc (suc zero)) l h = absurd (omega arith)
 room-three n (suc (suc (suc at))) l h = omega arith
+room-three n a l h = absurd (omega arith)
 
 pub base-ten : (b : ℕ) → IsBase b → 10 ≤ b
 base-ten b (inl e) = omega arith
@@ -109,18 +106,3 @@ write-last base n rest digits at g b l pos fits is e =
     e ∙ ap (λ (xs : List ℕ). xs ++ drop at digits) (numeral-digit base rest b l)
     ∙ ap (λ (d : ℕ). d ∷ drop at digits) (sym is)
     ∙ sym (drop-front digits at g pos fits)
-
--- one byte more is written
-pub hex_bytes-more : (bytes : List ℕ) (i : ℕ) → i < length bytes → get_or bytes i 0 < 256 →
-    hex_bytes (take (i + 1) bytes) ≡ hex_bytes (take i bytes) ++ glyph (get_or bytes i 0 / 16) ∷ glyph (get_or bytes i 0 % 16) ∷ []
-unfolding hex_bytes
-hex_bytes-more bytes i l small =
-    let b = get_or bytes i 0 in
-    let high : b / 16 % 16 ≡ b / 16 = omega arith in
-    ap (flat_map hex_pair) (take_more bytes i 0 l)
-    ∙ sym (flat_map_more hex_pair [] (take i bytes) b)
-    ∙ ap (λ (d : ℕ). flat_map hex_pair (take i bytes) ++ glyph d ∷ glyph (b % 16) ∷ []) high
-
-pub hex_bytes-nil : hex_bytes [] ≡ []
-unfolding hex_bytes
-hex_bytes-nil = refl

@@ -98,13 +98,12 @@ kept left n = (capped n, left)
 
 pub flushed-none : (fields : List (List ℕ)) → None ≡ first_address fields → Err BadField ≡ flushed_of_fields fields
 unfolding flushed_of_fields flushed_in
-flushed-none [] e = refl
 flushed-none (field ∷ []) e = go (address_in field) e
   where
     go : (o : Option ℕ) → None ≡ option_map (kept []) o → Err BadField ≡ required BadField o (λ a. checked OutOfRange (is_address a) (Ok a))
     go None e = refl
     go (Some a) e = cc
-flushed-none (field ∷ next ∷ more) e = refl
+flushed-none a e = refl
 
 pub flushed-more : (fields left : List (List ℕ)) (a : ℕ) → Some (a, left) ≡ first_address fields → (left ≡ [] → ⊥) → Err BadField ≡ flushed_of_fields fields
 unfolding flushed_of_fields flushed_in
@@ -138,19 +137,15 @@ flushed-last (field ∷ next ∷ rest) left a e last = go (address_in field) e
 
 pub store-none : (fields : List (List ℕ)) → None ≡ first_address fields → Err BadField ≡ op_of_fields words.Store fields
 unfolding op_of_fields store_in
-store-none [] e = refl
-store-none (field ∷ []) e = refl
 store-none (field ∷ bytes ∷ []) e = go (address_in field) e
   where
     go : (o : Option ℕ) → None ≡ option_map (kept (bytes ∷ [])) o → Err BadField ≡ required BadField (o >>= λ a. (bytes_in bytes >>= λ bs. Some (stored a bs))) op_checked
     go None e = refl
     go (Some a) e = cc
-store-none (field ∷ bytes ∷ next ∷ more) e = refl
+store-none a e = refl
 
 pub store-alone : (fields left : List (List ℕ)) (a : ℕ) → Some (a, left) ≡ first_address fields → left ≡ [] → Err BadField ≡ op_of_fields words.Store fields
 unfolding op_of_fields store_in
-store-alone [] left a e last = refl
-store-alone (field ∷ []) left a e last = refl
 store-alone (field ∷ bytes ∷ rest) left a e last = go (address_in field) e
   where
     go : (o : Option ℕ) → Some (a, left) ≡ option_map (kept (bytes ∷ rest)) o → Err BadField ≡ required BadField (store_in (field ∷ bytes ∷ rest)) op_checked
@@ -158,11 +153,10 @@ store-alone (field ∷ bytes ∷ rest) left a e last = go (address_in field) e
     go (Some b) e =
         let same : ◌≡◌ {A = ℕ × List (List ℕ)} (a, left) (capped b, bytes ∷ rest) = cc in
         let never : ◌≡◌ {A = List (List ℕ)} [] (bytes ∷ rest) = sym last ∙ ap (λ p. p.1) same in cc
+store-alone b left a e last = refl
 
 pub store-more : (fields left : List (List ℕ)) (a : ℕ) (bytes : List ℕ) (after : List (List ℕ)) → Some (a, left) ≡ first_address fields → left ≡ bytes ∷ after → (after ≡ [] → ⊥) → Err BadField ≡ op_of_fields words.Store fields
 unfolding op_of_fields store_in
-store-more [] left a bytes after e l more = refl
-store-more (field ∷ []) left a bytes after e l more = refl
 store-more (field ∷ given ∷ []) left a bytes after e l more = go (address_in field) e
   where
     go : (o : Option ℕ) → Some (a, left) ≡ option_map (kept (given ∷ [])) o → Err BadField ≡ required BadField (o >>= λ a. (bytes_in given >>= λ bs. Some (stored a bs))) op_checked
@@ -171,7 +165,7 @@ store-more (field ∷ given ∷ []) left a bytes after e l more = go (address_in
         let same : ◌≡◌ {A = ℕ × List (List ℕ)} (a, left) (capped b, given ∷ []) = cc in
         let both : ◌≡◌ {A = List (List ℕ)} (bytes ∷ after) (given ∷ []) = sym l ∙ ap (λ p. p.1) same in
         let none : after ≡ [] = cc in absurd (more none)
-store-more (field ∷ given ∷ next ∷ rest) left a bytes after e l more = refl
+store-more b left a bytes after e l more = refl
 
 -- what the bytes are, and then the checks
 abbrev pub store_checked : ℕ → Option (List ℕ) → Result Op TextKind
@@ -233,18 +227,15 @@ kept_span left r = ((capped r.addr, capped r.len), left)
 
 pub span-none : (fields : List (List ℕ)) → None ≡ first_address fields → None ≡ first_span fields
 unfolding span_in
-span-none [] e = refl
-span-none (addr ∷ []) e = refl
 span-none (addr ∷ len ∷ rest) e = go (address_in addr) e
   where
     go : (o : Option ℕ) → None ≡ option_map (kept (len ∷ rest)) o → None ≡ option_map (kept_span rest) (span_from o (number_in 10 len))
     go None e = refl
     go (Some a) e = cc
+span-none a e = refl
 
 pub span-no_len : (fields left : List (List ℕ)) (a : ℕ) → Some (a, left) ≡ first_address fields → None ≡ first_number left → None ≡ first_span fields
 unfolding span_in
-span-no_len [] left a e f = refl
-span-no_len (addr ∷ []) left a e f = refl
 span-no_len (addr ∷ len ∷ rest) left a e f = go (address_in addr) e
   where
     go : (o : Option ℕ) → Some (a, left) ≡ option_map (kept (len ∷ rest)) o → None ≡ option_map (kept_span rest) (span_from o (number_in 10 len))
@@ -256,6 +247,7 @@ span-no_len (addr ∷ len ∷ rest) left a e f = go (address_in addr) e
         none : (o : Option ℕ) → None ≡ option_map (kept rest) o → None ≡ option_map (kept_span rest) (o >>= λ n. Some (spanning b n))
         none None e = refl
         none (Some n) e = cc
+span-no_len b left a e f = refl
 
 pub span-some : (fields left after : List (List ℕ)) (a n : ℕ) → Some (a, left) ≡ first_address fields → Some (n, after) ≡ first_number left → Some ((a, n), after) ≡ first_span fields
 unfolding span_in

@@ -78,10 +78,9 @@ arguments_free c (Store w) s = (address_free c w.addr s, (digits_free c 16 (hex_
 arguments_free c (Clwb a) s = (address_free c a s, tt)
 arguments_free c (ClflushOpt a) s = (address_free c a s, tt)
 arguments_free c (Clflush a) s = (address_free c a s, tt)
-arguments_free c Sfence s = tt
-arguments_free c Mfence s = tt
 arguments_free c (IsPersist r) s = (address_free c r.addr s, (count_free c r.len s, tt))
 arguments_free c (IsOrderedBefore r q) s = (address_free c r.addr s, (count_free c r.len s, (address_free c q.addr s, (count_free c q.len s, tt))))
+arguments_free c b s = tt
 
 free-append : (c : ℕ) (xs ys : List ℕ) → IsFree c xs → IsFree c ys → IsFree c (xs ++ ys)
 free-append c [] ys h g = g
@@ -128,10 +127,9 @@ op_in-arguments (Store w) h = rw (address_in-address w.addr, bytes_in-store w.by
 op_in-arguments (Clwb a) h = rw (address_in-address a) refl
 op_in-arguments (ClflushOpt a) h = rw (address_in-address a) refl
 op_in-arguments (Clflush a) h = rw (address_in-address a) refl
-op_in-arguments Sfence h = refl
-op_in-arguments Mfence h = refl
 op_in-arguments (IsPersist r) h = rw (span_in-range r) refl
 op_in-arguments (IsOrderedBefore r q) h = rw (span_in-range r, span_in-range q) refl
+op_in-arguments b h = refl
 
 -- ---- The checks pass
 
@@ -152,20 +150,13 @@ in_range_op (Store w) h =
 in_range_op (Clwb a) h = lt-ltb a (2 ^ 48) h
 in_range_op (ClflushOpt a) h = lt-ltb a (2 ^ 48) h
 in_range_op (Clflush a) h = lt-ltb a (2 ^ 48) h
-in_range_op Sfence h = refl
-in_range_op Mfence h = refl
 in_range_op (IsPersist r) h = is_span_range r h
 in_range_op (IsOrderedBefore r q) h = and_from (is_span r) (is_span q) (is_span_range r h.0) (is_span_range q h.1)
+in_range_op b h = refl
 
 in_word_op : (op : Op) → IsOp op → is_in_word op ≡ true
 in_word_op (Store w) h = le-leb (w.addr % 8 + length w.bytes) 8 h.inside
-in_word_op (Clwb a) h = refl
-in_word_op (ClflushOpt a) h = refl
-in_word_op (Clflush a) h = refl
-in_word_op Sfence h = refl
-in_word_op Mfence h = refl
-in_word_op (IsPersist r) h = refl
-in_word_op (IsOrderedBefore r q) h = refl
+in_word_op b h = refl
 
 -- ---- Lines
 

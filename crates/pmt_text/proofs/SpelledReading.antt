@@ -32,11 +32,10 @@ zero-first base (c ∷ cs) some e = rw (numeral-zero base, e) refl
 -- digits at the front, of which the first is not 0
 pub digits-first : (base at : ℕ) (text : List ℕ) → IsBase base → 0 < at → at ≤ length text → get_or text 0 0 ≢ 48 → ((k : ℕ) → k < at → digit_of (get_or text k 0) < base)
     → text ≡ numeral base (digits_value base (take at text)) ++ drop at text
-digits-first base zero text b some within other each = absurd (omega arith)
-digits-first base (suc n) [] b some within other each = absurd (omega arith)
 digits-first base (suc n) (c ∷ cs) b some within other each =
     sym (take-append-drop (suc n) (c ∷ cs))
     ∙ ap (λ (xs : List ℕ). xs ++ drop (suc n) (c ∷ cs)) (sym (numeral-digits_value base c (take n cs) b (each 0 (omega arith), AreDigits-take base n cs (omega arith) (λ k below. each (suc k) (omega arith))) other))
+digits-first base a d b some within other each = absurd (omega arith)
 
 -- a word stands first
 pub word-first : (word text : List ℕ) → length word ≤ length text → ((k : ℕ) → k < length word → get_or text k 0 ≡ get_or word k 0) → text ≡ word ++ drop (length word) text

@@ -201,8 +201,6 @@ record IsSpelledTrace (lines : List (List ℕ)) (T : Recording) : Type 0 where
   text : join_with_byte 10 lines ≡ spelling T
 
 trace_lines : (lines : List (List ℕ)) → (lines_of_trace false lines).fault ≡ None → (T : Recording) × IsSpelledTrace lines T
-trace_lines [] e = absurd (cc)
-trace_lines (rest ∷ []) e = absurd (cc)
 trace_lines (line ∷ next ∷ tail) e = go (format_in line) refl e
   where
     go : (o : Option Layout) → format_in line ≡ o → (header_then o false (next ∷ tail)).fault ≡ None → (T : Recording) × IsSpelledTrace (line ∷ next ∷ tail) T
@@ -221,6 +219,7 @@ trace_lines (line ∷ next ∷ tail) e = go (format_in line) refl e
             text = spelled_text f later.items line (join_with_byte 10 (next ∷ tail)) (header-format_in line f i) read.text;
           },
         )
+trace_lines a e = absurd (cc)
 
 pub read_is_spelled : ReadIsSpelled
 unfolding trace_coming
@@ -251,20 +250,13 @@ one_text_of_trace first second T h g =
 items_each : {A : Type 0} (rule : List ℕ → Result A TextKind) (P : A → Type 0) (more : Bool) (first : ℕ) → ((given : List ℕ) (x : A) → rule given ≡ Ok x → P x) →
     (before : ℕ) (lines : List (List ℕ)) → AllByRecursion P (lines_coming rule more first before lines).items
 unfolding lines_coming
-items_each rule P more first reads before [] = tt
-items_each rule P more first reads before (rest ∷ []) = tt
 items_each rule P more first reads before (given ∷ next ∷ tail) =
     item_each P (first + before) before (rule given) (lines_coming rule more first (before + 1) (next ∷ tail)) (reads given) (items_each rule P more first reads (before + 1) (next ∷ tail))
+items_each rule P more first reads before a = tt
 
 old_ops : (op : Op) → in_format first_version op ≡ is_of_first_version op
 old_ops (Store w) = refl
-old_ops (Clwb a) = refl
-old_ops (ClflushOpt a) = refl
-old_ops (Clflush a) = refl
-old_ops Sfence = refl
-old_ops Mfence = refl
-old_ops (IsPersist r) = refl
-old_ops (IsOrderedBefore r q) = refl
+old_ops b = refl
 
 abbrev IsOld : Event → Type 0
 IsOld e = is_of_first_version e.op ≡ true
