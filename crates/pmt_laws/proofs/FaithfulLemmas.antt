@@ -5,8 +5,9 @@ use Rattle.std.proofs.lemmas.Bool.Decides.{nat_tests}
 use Rattle.pmt_model.specs.Machine.{Act, Stores, Asserts, count, writes, image_of, Image, Crash, Vectors}
 use Rattle.pmt_model.specs.Traces.{Recording, history}
 use Rattle.pmt_model.specs.Fronts.{front}
-use Rattle.pmt_model.specs.Boxes.{InBox, VectorsAreABox}
-use Rattle.pmt_model.specs.Selections.{always_stays, IsSelection, cut, matching_place, FrontsDecide}
+use Rattle.pmt_model.specs.Boxes.{InBox}
+use Rattle.pmt_model.specs.Selections.{always_stays, IsSelection, cut, matching_place}
+use Rattle.pmt_laws.specs.ModelLaws.{VectorsAreABox, FrontsDecide}
 use Rattle.pmt_laws.proofs.CutLemmas.{next-step, history-zero, count-cut}
 
 -- One more act brings equal bytes to equal bytes, where the counts of stores are equal.

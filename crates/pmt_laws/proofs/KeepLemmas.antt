@@ -5,9 +5,9 @@ use Rattle.std.proofs.lemmas.Bool.Decides.{nat_tests}
 use Rattle.pmt_model.specs.Machine.{Act, Flushes, Clflushes, Fences, count}
 use Rattle.pmt_model.specs.Traces.{Recording, IsAct, history, count_at}
 use Rattle.pmt_model.specs.Fronts.{front, mark, front_at}
-use Rattle.pmt_model.specs.Boxes.{VectorsAreABox}
 use Rattle.pmt_model.specs.Selections.{IsRising, Has, IsSelection, cut, matching_place}
-use Rattle.pmt_model.specs.Keeping.{IsUsefulFlush, IsKept, Stays, ByFence, ByFlush, ByClflush, IsKeep, KeepIsUnique, KeepIsFaithful}
+use Rattle.pmt_model.specs.Keeping.{IsUsefulFlush, IsKept, Stays, ByFence, ByFlush, ByClflush, IsKeep}
+use Rattle.pmt_laws.specs.ModelLaws.{VectorsAreABox, KeepIsUnique, KeepIsFaithful}
 use Rattle.pmt_laws.proofs.Histories.{act-within, history-act, front-grows, front-mono}
 use Rattle.pmt_laws.proofs.CutLemmas.{IsNext, Keeps, Drops, Ended, next-step, has-above, place-kept, place-mono, cut-act, history-zero, count-cut}
 use Rattle.pmt_laws.proofs.OutstandingFlushes.{mark-grows}

@@ -11,7 +11,8 @@ use Rattle.pmt_model.specs.Machine.{Act, Stores, Flushes, Clflushes, Fences, cou
 use Rattle.pmt_model.specs.Traces.{Recording, act, event, IsAct, history, count_at}
 use Rattle.pmt_model.specs.Fronts.{front_at}
 use Rattle.pmt_model.specs.Selections.{IsRising, Has}
-use Rattle.pmt_model.specs.Keeping.{IsKept, Stays, ByFence, ByFlush, ByClflush, IsKeep, KeepExists}
+use Rattle.pmt_model.specs.Keeping.{IsKept, Stays, ByFence, ByFlush, ByClflush, IsKeep}
+use Rattle.pmt_laws.specs.ModelLaws.{KeepExists}
 use Rattle.pmt_laws.proofs.Histories.{act-within, front-le-count, front-mono}
 
 -- The act of an event, if there is one.

@@ -2,7 +2,8 @@
 use Rattle.std.proofs.Common.{◌<◌, length, arith}
 use Rattle.pmt_model.specs.Traces.{history, count_at}
 use Rattle.pmt_model.specs.Fronts.{front_at}
-use Rattle.pmt_model.specs.Findings.{IsNeverPersisted, NeverPersistedByFronts}
+use Rattle.pmt_model.specs.Findings.{IsNeverPersisted}
+use Rattle.pmt_laws.specs.ModelLaws.{NeverPersistedByFronts}
 use Rattle.pmt_laws.proofs.AssertLemmas.{least_end, front-le-persisted}
 
 -- Some run of the whole trace ends without the store exactly if the front of its line stays below its rank.

@@ -8,7 +8,7 @@ use Rattle.pmt_model.specs.Fronts.{front, mark, front_at}
 use Rattle.pmt_model.specs.Selections.{Has, IsSelection, always_stays, cut, matching_place}
 use Rattle.pmt_model.specs.Keeping.{IsKept, Stays, ByFence, ByFlush, ByClflush, IsKeep}
 use Rattle.pmt_model.specs.Findings.{IsSafe, IsCovered, IsRedundantFlush, IsRedundantClflush, IsEmptyFence}
-use Rattle.pmt_model.specs.Shortest.{TrimmedHasNoWaste}
+use Rattle.pmt_laws.specs.ModelLaws.{TrimmedHasNoWaste}
 use Rattle.pmt_laws.proofs.Histories.{act-unique, history-act, front-le-count, front-mono}
 use Rattle.pmt_laws.proofs.BoxLemmas.{front-flush_now}
 use Rattle.pmt_laws.proofs.CutLemmas.{cut-act, count-cut}

@@ -6,7 +6,8 @@ use Rattle.pmt_model.specs.Machine.{Act, Flushes, Clflushes, Fences, count}
 use Rattle.pmt_model.specs.Traces.{Recording, IsAct, history, count_at}
 use Rattle.pmt_model.specs.Fronts.{front, mark, front_at}
 use Rattle.pmt_model.specs.Selections.{IsRising, Has, always_stays, IsSelection, cut, matching_place, IsFaithful}
-use Rattle.pmt_model.specs.Keeping.{IsUsefulFlush, IsKept, Stays, ByFence, ByFlush, ByClflush, IsKeep, without, NoneCanGo}
+use Rattle.pmt_model.specs.Keeping.{IsUsefulFlush, IsKept, Stays, ByFence, ByFlush, ByClflush, IsKeep, without}
+use Rattle.pmt_laws.specs.ModelLaws.{NoneCanGo}
 use Rattle.pmt_laws.proofs.Histories.{act-unique, act-within, history-act, front-le-count, front-mono}
 use Rattle.pmt_laws.proofs.BoxLemmas.{vectors_are_a_box}
 use Rattle.pmt_laws.proofs.CutLemmas.{IsNext, Keeps, Drops, Ended, next-step, history-zero, history-dropped, count-cut}

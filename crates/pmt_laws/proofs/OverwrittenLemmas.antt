@@ -5,7 +5,8 @@ use Rattle.std.specs.Prelude.{if◌then◌else◌}
 use Rattle.pmt_model.specs.Values.{Written}
 use Rattle.pmt_model.specs.Machine.{Act, Stores, Flushes, Clflushes, writes}
 use Rattle.pmt_model.specs.Traces.{Recording, IsAct, history}
-use Rattle.pmt_model.specs.Findings.{IsFlushOf, ByFlush, ByClflush, IsOverwritten, OverwritesBefore, OverwrittenByNumbers, last_store_number, last_flush}
+use Rattle.pmt_model.specs.Findings.{IsFlushOf, ByFlush, ByClflush, IsOverwritten, OverwritesBefore, last_store_number, last_flush}
+use Rattle.pmt_laws.specs.ModelLaws.{OverwrittenByNumbers}
 use Rattle.pmt_laws.proofs.Histories.{act-unique, act-within, history-act, history-step, length-history}
 
 -- Event j is the last one of the first n events that writes the byte at b.

@@ -7,7 +7,8 @@ use Rattle.pmt_model.specs.Values.{Written}
 use Rattle.pmt_model.specs.Machine.{Act, Stores, Flushes, Clflushes, Fences, count}
 use Rattle.pmt_model.specs.Traces.{Recording, IsAct, history, count_at}
 use Rattle.pmt_model.specs.Fronts.{front, front_at, open_mark}
-use Rattle.pmt_model.specs.Findings.{IsSafe, IsCovered, IsRedundantFlush, IsRedundantClflush, RedundantFlushByFronts, RedundantClflushByFronts}
+use Rattle.pmt_model.specs.Findings.{IsSafe, IsCovered, IsRedundantFlush, IsRedundantClflush}
+use Rattle.pmt_laws.specs.ModelLaws.{RedundantFlushByFronts, RedundantClflushByFronts}
 use Rattle.pmt_laws.proofs.Histories.{act-unique, act-within, history-act, history-step, count-mono, front-le-count}
 use Rattle.pmt_laws.proofs.BoxLemmas.{vectors_are_a_box}
 use Rattle.pmt_laws.proofs.OverwrittenLemmas.{equal_or_before, before-one}

@@ -1,5 +1,5 @@
 -- No selection with the same counts of persisted stores at every place is shorter than the kept one.
-use Rattle.pmt_model.specs.Shortest.{KeepIsShortest}
+use Rattle.pmt_laws.specs.ModelLaws.{KeepIsShortest}
 use Rattle.pmt_laws.proofs.Pigeonhole.{pigeonhole}
 use Rattle.pmt_laws.proofs.ShortestPairs.{IsPartner, partners-differ, kept-partner}
 

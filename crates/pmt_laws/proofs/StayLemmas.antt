@@ -10,8 +10,9 @@ use Rattle.pmt_model.specs.Traces.{Recording, event, IsAct, history, count_at}
 use Rattle.pmt_model.specs.Fronts.{front, front_at}
 use Rattle.pmt_model.specs.Selections.{Has, always_stays, IsSelection, cut, matching_place}
 use Rattle.pmt_model.specs.Keeping.{IsKeep}
-use Rattle.pmt_model.specs.Assertions.{Placed, last_store, InSpan, PersistPasses, OrderedPasses, up_to_last, NoLater, VerdictsStay}
-use Rattle.pmt_model.specs.Findings.{IsNeverPersisted, NeverPersistedStays}
+use Rattle.pmt_model.specs.Assertions.{Placed, last_store, InSpan, PersistPasses, OrderedPasses, up_to_last, NoLater}
+use Rattle.pmt_model.specs.Findings.{IsNeverPersisted}
+use Rattle.pmt_laws.specs.ModelLaws.{VerdictsStay, NeverPersistedStays}
 use Rattle.pmt_laws.proofs.Histories.{event-some}
 use Rattle.pmt_laws.proofs.CutLemmas.{has-above, place-kept, cut-act, IsNext, Keeps, Drops, Ended, next-step, history-zero, count-cut}
 use Rattle.pmt_laws.proofs.KeepLemmas.{keep_is_selection, keep_fronts}

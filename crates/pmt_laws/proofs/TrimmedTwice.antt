@@ -5,7 +5,7 @@ use Rattle.pmt_model.specs.Traces.{Recording, act, IsAct, count_at}
 use Rattle.pmt_model.specs.Fronts.{front_at}
 use Rattle.pmt_model.specs.Selections.{Has, IsSelection, cut, matching_place}
 use Rattle.pmt_model.specs.Keeping.{IsKept, Stays, ByFence, ByFlush, ByClflush, IsKeep}
-use Rattle.pmt_model.specs.Shortest.{TrimmedAgain}
+use Rattle.pmt_laws.specs.ModelLaws.{TrimmedAgain}
 use Rattle.pmt_laws.proofs.Histories.{event-some}
 use Rattle.pmt_laws.proofs.CutLemmas.{place-kept, cut-act}
 use Rattle.pmt_laws.proofs.CutActs.{act-origin, count-selected, earlier-origin, earlier-selected}

@@ -6,7 +6,7 @@ use Rattle.std.proofs.lemmas.Option.{slice_get_within, get_or_from_slice_get}
 use Rattle.pmt_model.specs.declared.event.Event.{Event}
 use Rattle.pmt_model.specs.Traces.{Recording, event}
 use Rattle.pmt_model.specs.Selections.{IsRising, Has, cut}
-use Rattle.pmt_model.specs.Shortest.{TrimmedStays}
+use Rattle.pmt_laws.specs.ModelLaws.{TrimmedStays}
 use Rattle.pmt_laws.proofs.Histories.{event-some}
 use Rattle.pmt_laws.proofs.CutLemmas.{has-above}
 use Rattle.pmt_laws.proofs.ShortestPairs.{not_later}

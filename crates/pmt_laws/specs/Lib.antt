@@ -1,3 +1,4 @@
+pub mod ModelLaws
 pub mod Worked
 pub mod WorkedFindings
 pub mod OneAnalysis

@@ -1,6 +1,6 @@
 //! What is found in a trace besides its verdicts, in the forms that are computed.
 
-ghost use Rattle.pmt_model.specs.Findings.{OverwrittenByNumbers, RedundantFlushByFronts, RedundantClflushByFronts};
+ghost use Rattle.pmt_laws.specs.ModelLaws.{OverwrittenByNumbers, RedundantFlushByFronts, RedundantClflushByFronts};
 
 /// A store is overwritten exactly where it is the last store to a byte of the later one, by their numbers, and the last flush
 /// of its line has a smaller number.

@@ -1,7 +1,6 @@
 //! What crashes leave, by the fronts.
 
-ghost use Rattle.pmt_model.specs.Boxes.{VectorsAreABox};
-ghost use Rattle.pmt_model.specs.Fronts.{FrontsAreGreatest};
+ghost use Rattle.pmt_laws.specs.ModelLaws.{VectorsAreABox, FrontsAreGreatest};
 
 /// The front of a line, kept event by event, is the greatest number of stores that a completed flush of the line marked.
 pub fn fronts_are_greatest()

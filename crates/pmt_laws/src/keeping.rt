@@ -1,6 +1,5 @@
 //! What a selection of events keeps of a trace, and the selection of the events that matter.
-ghost use Rattle.pmt_model.specs.Keeping.{KeepExists, KeepIsFaithful, KeepIsUnique};
-ghost use Rattle.pmt_model.specs.Selections.{FrontsDecide};
+ghost use Rattle.pmt_laws.specs.ModelLaws.{KeepExists, KeepIsFaithful, KeepIsUnique, FrontsDecide};
 
 /// At a place where a selection has the front of the trace for each line, a crash may leave the same images and the same
 /// counts of persisted stores after both.

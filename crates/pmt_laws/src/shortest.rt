@@ -1,5 +1,5 @@
 //! The kept selection is a shortest one, and has nothing left to trim.
-ghost use Rattle.pmt_model.specs.Shortest.{KeepIsShortest, TrimmedAgain, TrimmedHasNoWaste, TrimmedStays};
+ghost use Rattle.pmt_laws.specs.ModelLaws.{KeepIsShortest, TrimmedAgain, TrimmedHasNoWaste, TrimmedStays};
 
 /// No selection that leaves the same counts of persisted stores to a crash at every place has fewer events than the kept one.
 pub fn keep_is_shortest()

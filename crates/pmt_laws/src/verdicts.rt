@@ -1,7 +1,6 @@
 //! Laws of the assertions and of the stores that are never persisted.
 
-ghost use Rattle.pmt_model.specs.Assertions.{PersistByFronts, OrderedByFronts, VerdictsStay};
-ghost use Rattle.pmt_model.specs.Findings.{NeverPersistedByFronts, NeverPersistedStays};
+ghost use Rattle.pmt_laws.specs.ModelLaws.{PersistByFronts, OrderedByFronts, VerdictsStay, NeverPersistedByFronts, NeverPersistedStays};
 
 /// `isPersist` passes after a history exactly if, for each byte of its range, the front covers the last store to it.
 pub fn persist_by_fronts()

@@ -1,11 +1,9 @@
 -- The two assertions (own profile; their names are PMTest's).
-use Rattle.std.specs.Prelude.{◌≡◌, ℕ, suc, ◌+◌, ◌<◌, ◌≤◌, if◌then◌else◌, List, [], ◌∷◌, Option, Some, None, IfSome, IsSomeAnd, ◌↔◌, ◌⊎◌}
+use Rattle.std.specs.Prelude.{◌≡◌, ℕ, suc, ◌+◌, ◌<◌, ◌≤◌, if◌then◌else◌, List, [], ◌∷◌, Option, Some, None, IfSome, IsSomeAnd, ◌⊎◌}
 use Rattle.pmt_model.specs.Values.{Span}
 use Rattle.pmt_model.specs.Machine.{Act, Stores, Flushes, Clflushes, Fences, Asserts, count, writes, State, Ends, IsMoment}
 use Rattle.pmt_model.specs.Fronts.{front}
-use Rattle.pmt_model.specs.Traces.{Recording, history}
-use Rattle.pmt_model.specs.Selections.{cut, matching_place}
-use Rattle.pmt_model.specs.Keeping.{IsKeep}
+use Rattle.pmt_model.specs.Traces.{history}
 
 -- A store, by its line and its number among the stores to the line.
 pub record Placed : Type 0 where
@@ -43,19 +41,6 @@ OrderedPasses history A B =
     (s : State) → IsMoment history s → (b : ℕ) → InSpan B b → IsSomeAnd (last_store b history) (IsPersisted s.persisted) →
     AllPersisted history s.persisted A
 
--- The verdicts of assertion i in the trace and of the matching one in the kept selection are the same.
-abbrev pub VerdictsStay : Type 0
-VerdictsStay =
-    (T : Recording) (K : List ℕ) (i : ℕ) → IsKeep T K →
-    ((A : Span) → PersistPasses (history T i) A ↔ PersistPasses (history (cut T K) (matching_place K i)) A)
-    × ((A B : Span) → OrderedPasses (history T i) A B ↔ OrderedPasses (history (cut T K) (matching_place K i)) A B)
-
--- isPersist by the fronts.
-abbrev pub PersistByFronts : Type 0
-PersistByFronts =
-    (history : List Act) (A : Span) →
-    PersistPasses history A ↔ ((a : ℕ) → InSpan A a → IfSome (last_store a history) (λ x. x.rank ≤ front x.line history))
-
 -- The history up to and with the last store that writes the byte at b.
 abbrev pub up_to_last : ℕ → List Act → List Act
 up_to_last b [] = []
@@ -68,11 +53,3 @@ up_to_last b (Asserts ∷ history) = up_to_last b history
 -- Store x persists no later than y, h being the history up to y.
 abbrev pub NoLater : List Act → Placed → Placed → Type 0
 NoLater h x y = ((x.line ≡ y.line) × (x.rank ≤ y.rank)) ⊎ (x.rank ≤ front x.line h)
-
--- isOrderedBefore by the fronts as of the last store to each byte of B.
-abbrev pub OrderedByFronts : Type 0
-OrderedByFronts =
-    (history : List Act) (A B : Span) →
-    OrderedPasses history A B ↔
-    ((b : ℕ) → InSpan B b → IfSome (last_store b history) (λ y.
-    (a : ℕ) → InSpan A a → IfSome (last_store a history) (λ x. NoLater (up_to_last b history) x y)))

@@ -1,11 +1,8 @@
 -- What is found in a trace besides its verdicts (own profile).
-use Rattle.std.specs.Prelude.{◌≡◌, ◌≢◌, ℕ, ◌-◌, ◌<◌, ◌≤◌, ◌⊎◌, ◌↔◌, true, max, length, List, [], ◌∷◌, ◌==◌, suc, if◌then◌else◌, Option, Some, None, unwrap_or}
+use Rattle.std.specs.Prelude.{◌≡◌, ◌≢◌, ℕ, ◌-◌, ◌<◌, ◌≤◌, ◌⊎◌, true, length, List, [], ◌∷◌, ◌==◌, suc, if◌then◌else◌, Option, Some, None}
 use Rattle.pmt_model.specs.Values.{Written}
 use Rattle.pmt_model.specs.Machine.{Act, Asserts, Stores, Flushes, Clflushes, Fences, writes, State, Ends}
 use Rattle.pmt_model.specs.Traces.{Recording, IsAct, history, count_at}
-use Rattle.pmt_model.specs.Fronts.{front_at, open_mark}
-use Rattle.pmt_model.specs.Selections.{cut, matching_place}
-use Rattle.pmt_model.specs.Keeping.{IsKeep}
 
 -- Event i is a store to line l, and some run of the whole trace ends without it.
 pub record IsNeverPersisted (T : Recording) (l i : ℕ) : Type 0 where
@@ -67,28 +64,6 @@ pub record IsEmptyFence (T : Recording) (i : ℕ) : Type 0 where
   pub is_fence : IsAct T i (Fences thread)
   pub nothing : (j l : ℕ) → j < i → IsAct T j (Flushes thread l) → (k : ℕ) × (j < k) × (k < i) × IsAct T k (Fences thread)
 
--- The stores that are never persisted are the same in the kept selection.
-abbrev pub NeverPersistedStays : Type 0
-NeverPersistedStays =
-    (T : Recording) (K : List ℕ) (l i : ℕ) (w : Written) → IsKeep T K → IsAct T i (Stores l w) →
-    IsNeverPersisted T l i ↔ IsNeverPersisted (cut T K) l (matching_place K i)
-
--- Never persisted, by the fronts.
-abbrev pub NeverPersistedByFronts : Type 0
-NeverPersistedByFronts =
-    (T : Recording) (l i : ℕ) (w : Written) → IsAct T i (Stores l w) → IsNeverPersisted T l i ↔ (front_at T l (length T.events) < count_at T l i)
-
--- A redundant flush, by the front just before it and the open mark of its thread.
-abbrev pub RedundantFlushByFronts : Type 0
-RedundantFlushByFronts =
-    (T : Recording) (t l i : ℕ) → IsAct T i (Flushes t l) →
-    IsRedundantFlush T t l i ↔ (count_at T l i ≤ max (front_at T l (i - 1)) (unwrap_or (open_mark t l (history T (i - 1))) 0))
-
--- A redundant clflush, by the front just before it.
-abbrev pub RedundantClflushByFronts : Type 0
-RedundantClflushByFronts =
-    (T : Recording) (l i : ℕ) → IsAct T i (Clflushes l) → IsRedundantClflush T l i ↔ (count_at T l i ≤ front_at T l (i - 1))
-
 -- The number of the last store that writes the byte at b. The newest act of a history has the history's length as its number.
 abbrev pub last_store_number : ℕ → List Act → Option ℕ
 last_store_number b [] = None
@@ -114,8 +89,3 @@ pub record OverwritesBefore (T : Recording) (l j i : ℕ) (earlier later : Writt
   pub writes_later : writes later byte ≡ true
   pub last : last_store_number byte (history T (i - 1)) ≡ Some j
   pub unflushed : last_flush l (history T (i - 1)) < j
-
-abbrev pub OverwrittenByNumbers : Type 0
-OverwrittenByNumbers =
-    (T : Recording) (j i : ℕ) →
-    IsOverwritten T j i ↔ ((l : ℕ) × (earlier : Written) × (later : Written) × (byte : ℕ) × OverwritesBefore T l j i earlier later byte)

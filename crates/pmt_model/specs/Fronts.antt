@@ -58,6 +58,3 @@ front l (Asserts ∷ history) = front l history
 
 abbrev pub front_at : Recording → ℕ → ℕ → ℕ
 front_at T l n = front l (history T n)
-
-abbrev pub FrontsAreGreatest : Type 0
-FrontsAreGreatest = (T : Recording) (l n : ℕ) → IsFront T l n (front_at T l n)

@@ -1,9 +1,9 @@
 -- The flushes and fences that matter, and the selection of them.
-use Rattle.std.specs.Prelude.{◌≡◌, ◌≢◌, ℕ, ◌-◌, ◌<◌, ◌≤◌, ◌↔◌, ◌==◌, if◌then◌else◌, true, false, List, [], ◌∷◌, length}
+use Rattle.std.specs.Prelude.{◌≡◌, ◌≢◌, ℕ, ◌-◌, ◌<◌, ◌↔◌, ◌==◌, if◌then◌else◌, true, List, [], ◌∷◌}
 use Rattle.pmt_model.specs.Machine.{Act, Flushes, Clflushes, Fences}
 use Rattle.pmt_model.specs.Traces.{Recording, IsAct, count_at}
 use Rattle.pmt_model.specs.Fronts.{front_at}
-use Rattle.pmt_model.specs.Selections.{IsRising, Has, always_stays, IsFaithful}
+use Rattle.pmt_model.specs.Selections.{IsRising, Has, always_stays}
 
 -- A fence that raises the front of some line.
 pub record IsUsefulFence (T : Recording) (j : ℕ) : Type 0 where
@@ -43,25 +43,7 @@ pub record IsKeep (T : Recording) (K : List ℕ) : Type 0 where
   pub rising : IsRising 0 K
   pub just : (i : ℕ) → Has K i ↔ IsKept T i
 
--- Each trace has such a list.
-abbrev pub KeepExists : Type 0
-KeepExists = (T : Recording) → (K : List ℕ) × IsKeep T K
-
--- There is one such list.
-abbrev pub KeepIsUnique : Type 0
-KeepIsUnique = (T : Recording) (K J : List ℕ) → IsKeep T K → IsKeep T J → K ≡ J
-
--- It is a selection, and faithful at every place.
-abbrev pub KeepIsFaithful : Type 0
-KeepIsFaithful = (T : Recording) (K : List ℕ) (n : ℕ) → IsKeep T K → IsFaithful T K n
-
 -- The numbers without k.
 abbrev pub without : List ℕ → ℕ → List ℕ
 without [] k = []
 without (j ∷ js) k = if j == k then without js k else j ∷ without js k
-
--- Without its event k, which is no store and no assertion, the selection is not faithful at some place.
-abbrev pub NoneCanGo : Type 0
-NoneCanGo =
-    (T : Recording) (K : List ℕ) (k : ℕ) (a : Act) → IsKeep T K → Has K k → IsAct T k a → always_stays a ≡ false →
-    (n : ℕ) × (n ≤ length T.events) × (IsFaithful T (without K k) n → ⊥)

@@ -3,7 +3,6 @@ use Rattle.std.specs.Prelude.{◌≡◌, ℕ, suc, ◌<◌, ◌≤◌, ◌⊎◌
 use Rattle.std.specs.List.{filter_map}
 use Rattle.pmt_model.specs.Machine.{Act, Stores, Flushes, Clflushes, Fences, Asserts, Image}
 use Rattle.pmt_model.specs.Traces.{Recording, event, IsAct, CrashAt, VectorsAt}
-use Rattle.pmt_model.specs.Fronts.{front_at}
 
 -- The numbers rise, the first from above low.
 abbrev pub IsRising : ℕ → List ℕ → Type 0
@@ -41,8 +40,3 @@ matching_place (k ∷ ks) n = if nat_le k n then suc (matching_place ks n) else 
 pub record IsFaithful (T : Recording) (K : List ℕ) (n : ℕ) : Type 0 where
   pub images : (image : Image) → CrashAt T n image ↔ CrashAt (cut T K) (matching_place K n) image
   pub vectors : (v : ℕ → ℕ) → VectorsAt T n v ↔ VectorsAt (cut T K) (matching_place K n) v
-
--- A selection with the fronts of the trace is faithful.
-abbrev pub FrontsDecide : Type 0
-FrontsDecide =
-    (T : Recording) (K : List ℕ) (n : ℕ) → IsSelection T K → ((l : ℕ) → front_at T l n ≡ front_at (cut T K) l (matching_place K n)) → IsFaithful T K n
