@@ -1,7 +1,5 @@
 -- What a book keeps goes on from event to event.
-use Rattle.std.proofs.Common.{◌≡◌, ℕ, Bool, true, false, List, ◌∷◌, None, refl, sym, ap, subst, ◌∙◌}
-use Rattle.std.specs.Prelude.{nat_eq}
-use Rattle.std.specs.List.{list_any}
+use Rattle.std.proofs.Common.{◌≡◌, ℕ, false, List, ◌∷◌, None, sym, ap, subst, ◌∙◌}
 use Rattle.pmt_model.specs.declared.event.Event.{Event}
 use Rattle.pmt_model.specs.Machine.{Act, count}
 use Rattle.pmt_model.specs.Fronts.{front}

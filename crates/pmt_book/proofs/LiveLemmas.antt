@@ -30,10 +30,7 @@ count-le-length l (Stores k w ∷ h) = go (k == l) (count-le-length l h)
     go : (b : Bool) → count l h ≤ length h → (if b then suc (count l h) else count l h) ≤ suc (length h)
     go true le = omega arith
     go false le = omega arith
-count-le-length l (Flushes t k ∷ h) = omega (arith, count-le-length l h)
-count-le-length l (Clflushes k ∷ h) = omega (arith, count-le-length l h)
-count-le-length l (Fences t ∷ h) = omega (arith, count-le-length l h)
-count-le-length l (Asserts ∷ h) = omega (arith, count-le-length l h)
+count-le-length l (a ∷ h) = omega (arith, count-le-length l h)
 
 -- rows of counts, however they are said
 counts-same : (lines : List ℕ) (h : List Act) (last safe flush : ℕ → ℕ) (r : Rows) → ((l : ℕ) → count l h ≡ last l) → ((l : ℕ) → front l h ≡ safe l) → ((l : ℕ) → 0 ≡ flush l) → AreRows lines last safe flush r →
@@ -47,7 +44,6 @@ as_waiting f = record { number = f.number; line = f.line; store = f.stores }
 
 waits-open : (t : ℕ) (h : List Act) → waiting_by count t h ≡ map as_waiting (open_flushes t h)
 waits-open t [] = refl
-waits-open t (Stores k w ∷ h) = waits-open t h
 waits-open t (Flushes u k ∷ h) = go (u == t) (waits-open t h)
   where
     go : (b : Bool) → waiting_by count t h ≡ map as_waiting (open_flushes t h) →
@@ -56,13 +52,12 @@ waits-open t (Flushes u k ∷ h) = go (u == t) (waits-open t h)
     go true ih =
         ap (λ ws. ws ++ record { number = suc (length h); line = k; store = count k h } ∷ []) ih ∙ sym (map-append as_waiting (open_flushes t h) (record { number = suc (length h); line = k; stores = count k h } ∷ []))
     go false ih = ih
-waits-open t (Clflushes k ∷ h) = waits-open t h
 waits-open t (Fences u ∷ h) = go (u == t) (waits-open t h)
   where
     go : (b : Bool) → waiting_by count t h ≡ map as_waiting (open_flushes t h) → (if b then [] else waiting_by count t h) ≡ map as_waiting (if b then [] else open_flushes t h)
     go true ih = refl
     go false ih = ih
-waits-open t (Asserts ∷ h) = waits-open t h
+waits-open t (a ∷ h) = waits-open t h
 
 raise-most : (flushes : List Flushed) (safe : ℕ → ℕ) (l : ℕ) → raise_all (map as_waiting flushes) safe l ≡ max (safe l) (most l flushes)
 raise-most [] safe l = omega arith

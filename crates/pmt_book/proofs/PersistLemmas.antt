@@ -22,28 +22,16 @@ use Rattle.pmt_book.proofs.StoreBytes.{IsStoreOf, IsSize, size-of_format, byte-l
 abbrev pub IsPlaced : Layout → List Act → Type 0
 IsPlaced f [] = Unit {0}
 IsPlaced f (Stores k w ∷ h) = IsStoreOf f k w × IsPlaced f h
-IsPlaced f (Flushes t k ∷ h) = IsPlaced f h
-IsPlaced f (Clflushes k ∷ h) = IsPlaced f h
-IsPlaced f (Fences t ∷ h) = IsPlaced f h
-IsPlaced f (Asserts ∷ h) = IsPlaced f h
+IsPlaced f (a ∷ h) = IsPlaced f h
 
 placed-append : (f : Layout) (g h : List Act) → IsPlaced f g → IsPlaced f h → IsPlaced f (g ++ h)
 placed-append f [] h p q = q
 placed-append f (Stores k w ∷ g) h p q = (p.0, placed-append f g h p.1 q)
-placed-append f (Flushes t k ∷ g) h p q = placed-append f g h p q
-placed-append f (Clflushes k ∷ g) h p q = placed-append f g h p q
-placed-append f (Fences t ∷ g) h p q = placed-append f g h p q
-placed-append f (Asserts ∷ g) h p q = placed-append f g h p q
+placed-append f (a ∷ g) h p q = placed-append f g h p q
 
 placed-op : (f : Layout) (t : ℕ) (op : Op) → IsOp op → IsPlaced f (act_of f t op ∷ [])
 placed-op f t (Store w) is = (record { store = is; line = refl }, tt)
-placed-op f t (Clwb a) is = tt
-placed-op f t (ClflushOpt a) is = tt
-placed-op f t (Clflush a) is = tt
-placed-op f t Sfence is = tt
-placed-op f t Mfence is = tt
-placed-op f t (IsPersist r) is = tt
-placed-op f t (IsOrderedBefore r q) is = tt
+placed-op f t b is = tt
 
 placed-acts : (f : Layout) (es : List Event) → AllByRecursion (IsEventIn f) es → IsPlaced f (reverse (map (act f) es))
 placed-acts f [] all = tt
@@ -79,10 +67,7 @@ last_store-placed f (Stores k w ∷ h) a size p = go (writes w a) refl (last_sto
         IfSome (if b then Some (record { line = k; rank = suc (count k h) }) else last_store a h) (λ x. (line_of f a ≡ x.line) × (x.rank ≤ count x.line (Stores k w ∷ h)))
     go true e q = (byte-line f k a w size p.0 e, omega (arith, own))
     go false e q = older (last_store a h) q
-last_store-placed f (Flushes t k ∷ h) a size p = last_store-placed f h a size p
-last_store-placed f (Clflushes k ∷ h) a size p = last_store-placed f h a size p
-last_store-placed f (Fences t ∷ h) a size p = last_store-placed f h a size p
-last_store-placed f (Asserts ∷ h) a size p = last_store-placed f h a size p
+last_store-placed f (b ∷ h) a size p = last_store-placed f h a size p
 
 -- The last store to each byte of the range that lies on line l is among the first m of the line.
 abbrev pub IsCovered : Layout → ℕ → ℕ → Span → List Act → Type 0
@@ -114,9 +99,8 @@ byte-from_touches w A some wide e = go (nat_lt w.addr (A.addr + A.len)) (nat_lt 
 
 -- an act that is no store to the line changes nothing
 none_touches-other : (n l : ℕ) (A : Span) (a : Act) (h : List Act) → store_on l a ≡ None → none_touches n l A (a ∷ h) ≡ none_touches n l A h
-none_touches-other zero l A a [] e = refl
-none_touches-other zero l A a (b ∷ h) e = refl
 none_touches-other (suc n) l A a h e = ap (λ (o : Option Written). none_touches_next o A (none_touches n l A h) (none_touches (suc n) l A h)) e
+none_touches-other zero l A a c e = refl
 
 -- a store to another line writes no byte of this one
 other-line : (f : Layout) (l k a : ℕ) (w : Written) → IsSize f.line_size → IsStoreOf f k w → k ≢ l → line_of f a ≡ l → writes w a ≡ false
@@ -189,10 +173,7 @@ covered-from_spares f l m A (Stores k w ∷ h) size p e = go (cases_eq k l) (cas
     go (inr other) few older = λ a i at.
         along m (last_store a (Stores k w ∷ h)) (last_store a h) (older_store k a w h (other-line f l k a w size p.0 other at))
         (older (sym (none_touches-skip l k m A w h other) ∙ e) a i at)
-covered-from_spares f l m A (Flushes t k ∷ h) size p e = covered-from_spares f l m A h size p (sym (none_touches-other (count l h - m) l A (Flushes t k) h refl) ∙ e)
-covered-from_spares f l m A (Clflushes k ∷ h) size p e = covered-from_spares f l m A h size p (sym (none_touches-other (count l h - m) l A (Clflushes k) h refl) ∙ e)
-covered-from_spares f l m A (Fences t ∷ h) size p e = covered-from_spares f l m A h size p (sym (none_touches-other (count l h - m) l A (Fences t) h refl) ∙ e)
-covered-from_spares f l m A (Asserts ∷ h) size p e = covered-from_spares f l m A h size p (sym (none_touches-other (count l h - m) l A Asserts h refl) ∙ e)
+covered-from_spares f l m A (b ∷ h) size p e = covered-from_spares f l m A h size p (sym (none_touches-other (count l h - m) l A b h refl) ∙ e)
 
 -- and the other way round
 pub none_touches-from_covered :
@@ -240,10 +221,7 @@ none_touches-from_covered f l m A (Stores k w ∷ h) size p wide c = go (cases_e
         none_touches-own l k m A w h same more
         ∙ both (touches w A) (none_touches (count l h - m) l A h) (untouched same more) (next (λ a i at. older a i at (unwritten a i (untouched same more))))
     go (inr other) few next = none_touches-skip l k m A w h other ∙ next (λ a i at. older a i at (other-line f l k a w size p.0 other at))
-none_touches-from_covered f l m A (Flushes t k ∷ h) size p wide c = none_touches-other (count l h - m) l A (Flushes t k) h refl ∙ none_touches-from_covered f l m A h size p wide c
-none_touches-from_covered f l m A (Clflushes k ∷ h) size p wide c = none_touches-other (count l h - m) l A (Clflushes k) h refl ∙ none_touches-from_covered f l m A h size p wide c
-none_touches-from_covered f l m A (Fences t ∷ h) size p wide c = none_touches-other (count l h - m) l A (Fences t) h refl ∙ none_touches-from_covered f l m A h size p wide c
-none_touches-from_covered f l m A (Asserts ∷ h) size p wide c = none_touches-other (count l h - m) l A Asserts h refl ∙ none_touches-from_covered f l m A h size p wide c
+none_touches-from_covered f l m A (a ∷ h) size p wide c = none_touches-other (count l h - m) l A a h refl ∙ none_touches-from_covered f l m A h size p wide c
 
 -- how many stores to line l may still be lost spare the range
 abbrev pub IsSpared : Recording → Span → ℕ → Type 0
