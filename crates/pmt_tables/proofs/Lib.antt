@@ -8,3 +8,4 @@ pub mod SeenLemmas
 pub mod LineLemmas
 pub mod WrittenLemmas
 pub mod ListLemmas
+pub mod CellLemmas

@@ -1,17 +1,13 @@
 -- Elements of a list by their places.
-use Rattle.std.proofs.Common.{◌≡◌, ◌≢◌, ℕ, zero, suc, ◌<◌, ◌⊎◌, inl, inr, Bool, true, false, List, [], ◌∷◌, ◌++◌, length, set, map, Option, Some, None, refl, sym, ap, subst, ◌∙◌, arith}
-use Rattle.std.specs.Prelude.{◌==◌, ◌||◌, cond, nat_eq, not, slice_get}
-use Rattle.std.specs.HashMap.{HashMap, get}
+use Rattle.std.proofs.Common.{◌≡◌, ◌≢◌, ℕ, zero, suc, ◌<◌, ◌⊎◌, inl, inr, Bool, true, false, List, [], ◌∷◌, ◌++◌, length, set, map, Some, None, refl, sym, ap, ◌∙◌, arith}
+use Rattle.std.specs.Prelude.{◌==◌, ◌||◌, nat_eq, slice_get}
 use Rattle.std.specs.List.{list_any, IsDistinct}
-use Rattle.std.specs.Option.{unwrap_or}
 use Rattle.std.proofs.lemmas.Bool.{cases_eq, cases_order, eq-eqb, ne_eqb, eqb-true, or_parts}
 use Rattle.std.proofs.lemmas.Bool.Decides.{Decides-eqb}
-use Rattle.std.proofs.lemmas.Cmp.{nat_eq_equiv}
-use Rattle.std.proofs.lemmas.Map.Keys.{IsDistinct-push}
 use Rattle.std.proofs.lemmas.Map.Made.{AllPairs-from_IsDistinct}
 use Rattle.std.proofs.lemmas.Option.{get_or_from_slice_get, slice_get_within, same_Some}
 use Rattle.pmt_model.specs.Traces.{has_line}
-use Rattle.pmt_tables.specs.Places.{AreNumbered, IsFound}
+use Rattle.pmt_tables.specs.Places.{IsFound}
 
 -- no element of a list without doubles has two places
 pub one-place : (xs : List ℕ) (x p q : ℕ) → IsDistinct nat_eq xs → slice_get xs p ≡ Some x → slice_get xs q ≡ Some x → p ≡ q
@@ -72,38 +68,6 @@ push-cases (z ∷ xs) x y (suc p) at = go (push-cases xs x y p at)
     go : (slice_get xs p ≡ Some y) ⊎ ((p ≡ length xs) × (x ≡ y)) → (slice_get xs p ≡ Some y) ⊎ ((suc p ≡ suc (length xs)) × (x ≡ y))
     go (inl before) = inl before
     go (inr last) = inr (ap suc last.0, last.1)
-
--- the place that a line gets is the next one if it had none
-pub is-new : (lines : List ℕ) (l place : ℕ) (found : Option ℕ) → IsFound l lines found → place ≡ unwrap_or found (length lines) → nat_eq place (length lines) ≡ not (list_any (nat_eq l) lines)
-is-new lines l place None none at = rw (not-among lines l none) (eq-eqb place (length lines) at)
-is-new lines l place (Some p) there at =
-    let within = slice_get_within lines p l there in
-    rw (among lines l p there) (ne_eqb place (length lines) (λ e. absurd (omega (arith, within, at, e))))
-
--- whether a line is new, by the place that it gets
-pub by-place : (lines : List ℕ) (l place : ℕ) → nat_eq place (length lines) ≡ not (list_any (nat_eq l) lines) → (place ≡ length lines → list_any (nat_eq l) lines ≡ false) × ((place ≡ length lines → ⊥) → list_any (nat_eq l) lines ≡ true)
-by-place lines l place is = (λ last. go (list_any (nat_eq l) lines) (sym (eq-eqb place (length lines) last) ∙ is), λ other. back (list_any (nat_eq l) lines) (sym (ne_eqb place (length lines) other) ∙ is))
-  where
-    go : (b : Bool) → true ≡ not b → b ≡ false
-    go false is = refl
-    go true is = absurd (cc)
-
-    back : (b : Bool) → false ≡ not b → b ≡ true
-    back true is = refl
-    back false is = absurd (cc)
-
-pub numbered-push : {S : Type 0} (lines : List ℕ) (l : ℕ) (old new : HashMap ℕ ℕ S) → AreNumbered lines old → list_any (nat_eq l) lines ≡ false → ((k : ℕ) → get nat_eq new k ≡ cond (nat_eq l k) (Some (length lines)) (get nat_eq old k)) → AreNumbered (lines ++ l ∷ []) new
-numbered-push lines l old new are absent after =
-    (IsDistinct-push nat_eq_equiv lines l are.0 absent, λ k. subst (IsFound k (lines ++ l ∷ [])) (sym (after k)) (go k (cases_eq l k) (get nat_eq old k) (are.1 k)))
-  where
-    apart : {k : ℕ} (p : ℕ) → (l ≡ k → ⊥) → ((q : ℕ) → slice_get lines q ≡ Some k → ⊥) → (slice_get lines p ≡ Some k) ⊎ ((p ≡ length lines) × (l ≡ k)) → ⊥
-    apart p other none (inl at) = none p at
-    apart p other none (inr last) = other last.1
-
-    go : (k : ℕ) → (l ≡ k) ⊎ (l ≡ k → ⊥) → (o : Option ℕ) → IsFound k lines o → IsFound k (lines ++ l ∷ []) (cond (nat_eq l k) (Some (length lines)) o)
-    go k (inl same) o found = rw (eq-eqb l k same) (get-last lines l ∙ ap Some same)
-    go k (inr other) None none = rw (ne_eqb l k other) (λ p at. apart p other none (push-cases lines l k p at))
-    go k (inr other) (Some p) at = rw (ne_eqb l k other) (get-left lines (l ∷ []) p k at)
 
 -- a map over elements that has one of them changed
 

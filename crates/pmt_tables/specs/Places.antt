@@ -1,6 +1,5 @@
 -- Where lines stand.
-use Rattle.std.specs.Prelude.{◌≡◌, ℕ, List, [], ◌∷◌, ◌++◌, Some, Option, MatchOption, nat_eq, slice_get, if◌then◌else◌}
-use Rattle.std.specs.HashMap.{HashMap, get}
+use Rattle.std.specs.Prelude.{◌≡◌, ◌≢◌, ◌<◌, ◌+◌, ◌-◌, ◌*◌, ◌/◌, ◌%◌, ◌^◌, ℕ, suc, List, [], ◌∷◌, ◌++◌, Some, Option, MatchOption, bit_and, bit_or, length, nat_eq, slice_get, slice_index, if◌then◌else◌}
 use Rattle.std.specs.List.{IsDistinct, list_any}
 
 -- Line l stands at this place.
@@ -11,9 +10,22 @@ IsPlaceOf l place lines = slice_get lines place ≡ Some l
 abbrev pub IsFound : ℕ → List ℕ → Option ℕ → Type 0
 IsFound l lines found = MatchOption found ((place : ℕ) → IsPlaceOf l place lines → ⊥) (λ place. IsPlaceOf l place lines)
 
--- Each line stands at one place, and the map has it.
-abbrev pub AreNumbered : {S : Type 0} → List ℕ → HashMap ℕ ℕ S → Type 0
-AreNumbered lines places = IsDistinct nat_eq lines × ((l : ℕ) → IsFound l lines (get nat_eq places l))
+-- The cell at which the look with this number is made for a line, in an index of so many cells.
+unfoldable pub cell_at : ℕ → ℕ → ℕ → ℕ
+cell_at size line look =
+    let mixed = (line / 2 ^ 14 * 0x9e3779b97f4a7c15) % 2 ^ 64 in
+    let far = (look * bit_or (mixed / 2 ^ 32) 1) % 2 ^ 64 in
+    bit_and (((line + mixed) % 2 ^ 64 + far) % 2 ^ 64) (size - 1)
+
+-- A look for a line comes to this entry, and past no free cell before that.
+abbrev pub IsReached : List ℕ → ℕ → ℕ → Type 0
+IsReached cells line entry =
+    (d : ℕ) × (d < length cells) × (slice_index cells (cell_at (length cells) line d) ≡ entry)
+    × ((k : ℕ) → k < d → slice_index cells (cell_at (length cells) line k) ≢ 0)
+
+-- Each line stands at one place, and the cells have it, and one more.
+abbrev pub AreIndexed : List ℕ → List ℕ → Type 0
+AreIndexed lines cells = IsDistinct nat_eq lines × ((place l : ℕ) → IsPlaceOf l place lines → IsReached cells l (suc place))
 
 -- The lines once line l has a place: if it had none, it goes last.
 abbrev pub insert_line : List ℕ → ℕ → List ℕ

@@ -1,44 +1,38 @@
 //! The places of lines.
-ghost use Rattle.std.specs.Prelude.{◌≡◌, ◌<◌, ◌^◌, ℕ, [], Some, cond, not, length, IfOk, IfSome, OnOk, OnErr, nat_eq};
-ghost use Rattle.std.specs.HashMap.{get};
+ghost use Rattle.std.specs.Prelude.{◌≡◌, ◌<◌, ◌^◌, ◌↔◌, ℕ, suc, [], true, not, length, IfOk, IfSome, OnOk, OnErr, None, false, ◌++◌, ◌∷◌, nat_eq};
 ghost use Rattle.std.specs.List.{IsDistinct, list_any};
-ghost use Rattle.std.specs.Option.{unwrap_or};
-ghost use Rattle.pmt_tables.specs.Places.{AreNumbered, IsFound, IsPlaceOf, insert_line};
+ghost use Rattle.pmt_tables.specs.Places.{AreIndexed, IsFound, IsPlaceOf, IsReached, cell_at, insert_line};
 
 use pmt_model::OutOfMemory;
 use std::alloc::{AllocError, Global};
-use std::collections::HashMap;
 use std::marker::Model;
 
 // How many places are remembered: 8 KiB of them, a quarter of a processor's nearest cache.
 const RECENT: usize = 2048;
 
-// Of how many more lines at most, once so many look-ups found known ones: half a mebibyte of places, for the next cache.
-const MOST: usize = 131_072;
+// An odd number whose multiples differ in all bits: 2^64 by the golden ratio.
+const MIXER: u64 = 0x9e37_79b9_7f4a_7c15;
 
-/// Lines, each with a place: that of its first appearance. A line takes 28 bytes, and some 6 to 11 more of the index.
+/// Lines, each with a place: that of its first appearance. A line takes 16 to 24 bytes.
 #[derive(Drop)]
 pub struct LinePlaces {
     // In order of first appearance.
     lines: Vec<u64>,
-    places: HashMap<u64, u32>,
+    // Of each line its place and one more, at the first cell that was free of those that are looked at for it; else 0. At least half are free.
+    cells: Vec<u32>,
     // By the lowest bits of lines the places that were found last: mostly the next line is one of these. Nothing is promised of them.
     recent: [u32; RECENT],
-    // The same of more lines: at first of none.
-    known: Vec<u32>,
-    // How many look-ups found a known line since there is room for so many.
-    missed: usize,
 }
 
 impl Model for LinePlaces {
     ghost use Rattle.std.specs.Prelude.{ℕ, ◌^◌, ◌<◌, List, length};
-    ghost use Rattle.pmt_tables.specs.Places.{AreNumbered};
+    ghost use Rattle.pmt_tables.specs.Places.{AreIndexed};
 
     ghost Value = { List ℕ };
 
     ghost view = { λ p. p.lines.items };
 
-    ghost invariant = { λ p. AreNumbered p.lines.items p.places × (length p.lines.items < 2 ^ 32) };
+    ghost invariant = { λ p. AreIndexed p.lines.items p.cells.items × (length p.lines.items < 2 ^ 32) };
 }
 
 impl LinePlaces {
@@ -48,10 +42,8 @@ impl LinePlaces {
     {
         LinePlaces {
             lines: Vec::new(alloc),
-            places: HashMap::new(alloc),
+            cells: Vec::new(alloc),
             recent: [0; RECENT],
-            known: Vec::new(alloc),
-            missed: 0,
         }
     }
 
@@ -76,39 +68,10 @@ impl LinePlaces {
         ensures small { IfSome result (λ place. place < 2 ^ 32) }
     {
         let place = self.recent[line as usize % RECENT] as usize;
-        self.if_of(place, line)
-    }
-
-    // The place, if it is that of the line.
-    #[inline(always)]
-    fn if_of(&self, place: usize, line: u64) -> Option<usize>
-        ensures place { IfSome result (λ p. IsPlaceOf line p self.now) }
-        ensures small { IfSome result (λ p. p < 2 ^ 32) }
-        ensures unique { IsDistinct nat_eq self.now }
-    {
-        match self.lines.as_slice().get(place) {
-            Some(known) if *known == line => Some(place),
-            _ => None,
+        if !is_at(self.lines.as_slice(), place, line) {
+            return None;
         }
-    }
-
-    // The place of the line, if it is one of many that were found last.
-    #[inline(always)]
-    fn known(&self, line: u64) -> Option<usize>
-        ensures place { IfSome result (λ place. IsPlaceOf line place self.now) }
-        ensures small { IfSome result (λ place. place < 2 ^ 32) }
-        ensures unique { IfSome result (λ _. IsDistinct nat_eq self.now) }
-    {
-        match self.known.get(self.slot_of(line)) {
-            Some(place) => self.if_of(*place as usize, line),
-            None => None,
-        }
-    }
-
-    // Where the place of the line is remembered among those of many.
-    #[inline(always)]
-    fn slot_of(&self, line: u64) -> usize {
-        line as usize & self.known.len().wrapping_sub(1)
+        Some(place)
     }
 
     /// The place of the line, below 2^32, which it gets if it has none yet, and whether it is new.
@@ -124,31 +87,13 @@ impl LinePlaces {
         ensures unique { OnOk result (IsDistinct nat_eq self.new) }
         ensures same { OnErr result (self.new ≡ self.old) }
     {
-        if let Some(place) = self.known(line) {
+        if let Some(place) = look_up(self.lines.as_slice(), self.cells.as_slice(), line) {
             self.remember(line, place);
             return Ok((place, false));
         }
-        self.look_up(line)
-    }
-
-    // The same, by a look-up.
-    #[inline(always)]
-    fn look_up(&mut self, line: u64) -> Result<(usize, bool), OutOfMemory>
-        ensures here { IfOk result (λ found. IsPlaceOf line found.0 self.new) }
-        ensures small { IfOk result (λ found. found.0 < 2 ^ 32) }
-        ensures added { IfOk result (λ found. found.1 ≡ not (list_any (nat_eq line) self.old)) }
-        ensures lines { OnOk result (self.new ≡ insert_line self.old line) }
-        ensures unique { OnOk result (IsDistinct nat_eq self.new) }
-        ensures same { OnErr result (self.new ≡ self.old) }
-    {
-        let next = self.lines.len();
-        let place = number_of(&mut self.lines, &mut self.places, line)?;
-        let is_new = place == next;
+        let place = add(&mut self.lines, &mut self.cells, line)?;
         self.remember(line, place);
-        if !is_new {
-            self.remember_known(line, place)?;
-        }
-        Ok((place, is_new))
+        Ok((place, true))
     }
 
     // Remembers the place of a line that was found.
@@ -160,35 +105,6 @@ impl LinePlaces {
         self.recent[line as usize % RECENT] = place as u32;
     }
 
-    // Remembers it among those of many, for which there is more room after some look-ups.
-    #[inline(never)]
-    fn remember_known(&mut self, line: u64, place: usize) -> Result<(), OutOfMemory>
-        requires { place < 2 ^ 32 }
-        ensures { self.new ≡ self.old }
-    {
-        self.missed = self.missed.wrapping_add(1);
-        if self.missed > self.known.len().max(RECENT) {
-            self.make_room()?;
-        }
-        let slot = self.slot_of(line);
-        if let Some(known) = self.known.get_mut(slot) {
-            *known = place as u32;
-        }
-        Ok(())
-    }
-
-    // Room to remember the places of all lines, or of as many as may be.
-    fn make_room(&mut self) -> Result<(), OutOfMemory>
-        ensures { self.new ≡ self.old }
-    {
-        self.missed = 0;
-        let room = (2 * self.lines.len().min(MOST / 2)).next_power_of_two();
-        if room > self.known.len() {
-            self.known.resize(room, 0)?;
-        }
-        Ok(())
-    }
-
     /// The place of the line, if it has one.
     #[inline(always)]
     pub fn find(&self, line: u64) -> Option<usize>
@@ -197,50 +113,126 @@ impl LinePlaces {
     {
         match self.recent(line) {
             Some(place) => Some(place),
-            None => match self.places.get(&line) {
-                Some(place) => Some(*place as usize),
-                None => None,
-            },
+            None => look_up(self.lines.as_slice(), self.cells.as_slice(), line),
         }
     }
 }
 
-// The place of the line, which is the next one if it is new.
+// Whether the line stands at this place.
 #[inline(always)]
-fn number_of(
-    lines: &mut Vec<u64>,
-    places: &mut HashMap<u64, u32>,
-    line: u64,
-) -> Result<usize, OutOfMemory>
-    requires { AreNumbered lines.old.items places.old × (length lines.old.items < 2 ^ 32) }
-    ensures numbered { AreNumbered lines.new.items places.new }
+fn is_at(lines: &[u64], place: usize, line: u64) -> bool
+    ensures { (result ≡ true) ↔ IsPlaceOf line place lines.now }
+{
+    match lines.get(place) {
+        Some(other) => *other == line,
+        None => false,
+    }
+}
+
+// The cell at which the look with this number is made for the line: lines beside one another begin beside one another, and lines that begin
+// at one cell go on by steps of their own.
+#[inline(always)]
+fn cell_of(size: usize, line: u64, look: usize) -> usize
+    requires { 0 < size }
+    ensures cell { result ≡ cell_at size line look }
+    ensures within { result < size }
+{
+    let mixed = (line >> 14).wrapping_mul(MIXER);
+    let far = (look as u64).wrapping_mul(mixed >> 32 | 1);
+    line.wrapping_add(mixed).wrapping_add(far) as usize & (size - 1)
+}
+
+// The place of the line, if it has one.
+#[inline(always)]
+fn look_up(lines: &[u64], cells: &[u32], line: u64) -> Option<usize>
+    requires { AreIndexed lines.now cells.now }
+    ensures found { IsFound line lines.now result }
+    ensures small { IfSome result (λ place. place < 2 ^ 32) }
+{
+    for look in 0..cells.len() {
+        let cell = cell_of(cells.len(), line, look);
+        let entry = cells[cell];
+        if entry == 0 {
+            return None;
+        }
+        let place = entry as usize - 1;
+        if is_at(lines, place, line) {
+            return Some(place);
+        }
+    }
+    None
+}
+
+// The next place, which the line gets. It had none.
+#[inline(always)]
+fn add(lines: &mut Vec<u64>, cells: &mut Vec<u32>, line: u64) -> Result<usize, OutOfMemory>
+    requires indexed { AreIndexed lines.old.items cells.old.items × (length lines.old.items < 2 ^ 32) }
+    requires new { IsFound line lines.old.items None }
+    ensures indexed { AreIndexed lines.new.items cells.new.items }
     ensures few { length lines.new.items < 2 ^ 32 }
-    ensures here { IfOk result (λ place. IsPlaceOf line place lines.new.items) }
-    ensures small { IfOk result (λ place. place < 2 ^ 32) }
-    ensures added { IfOk result (λ place. nat_eq place (length lines.old.items) ≡ not (list_any (nat_eq line) lines.old.items)) }
-    ensures lines { OnOk result (lines.new.items ≡ insert_line lines.old.items line) }
+    ensures next { IfOk result (λ place. place ≡ length lines.old.items) }
+    ensures absent { OnOk result (list_any (nat_eq line) lines.old.items ≡ false) }
+    ensures lines { OnOk result (lines.new.items ≡ lines.old.items ++ line ∷ []) }
     ensures same { OnErr result (lines.new.items ≡ lines.old.items) }
 {
-    let next = lines.len();
-    if next >= u32::MAX as usize {
+    let place = lines.len();
+    if place >= u32::MAX as usize {
         return Err(AllocError);
     }
     lines.reserve(1)?;
-    let place = reach(places, line, next as u32)? as usize;
-    if place == next {
-        lines.push(line)?;
+    make_room(*lines.allocator(), lines.as_slice(), cells)?;
+    if !put(cells, line, place as u32 + 1) {
+        return Err(AllocError);
     }
+    lines.push_reserved(line);
     Ok(place)
 }
 
-// The place of the line, which is the next one if it has none yet.
+// Makes room for one line more, where half of the cells have an entry.
 #[inline(always)]
-fn reach(places: &mut HashMap<u64, u32>, line: u64, next: u32) -> Result<u32, OutOfMemory>
-    ensures place { IfOk result (λ place. place ≡ unwrap_or (get nat_eq places.old line) next) }
-    ensures small { IfOk result (λ place. place < 2 ^ 32) }
-    ensures after { IfOk result (λ place. (l : ℕ) → get nat_eq places.new l ≡ cond (nat_eq line l) (Some place) (get nat_eq places.old l)) }
-    ensures same { OnErr result ((l : ℕ) → get nat_eq places.new l ≡ get nat_eq places.old l) }
+fn make_room(alloc: Global, lines: &[u64], cells: &mut Vec<u32>) -> Result<(), OutOfMemory>
+    requires { AreIndexed lines.now cells.old.items × (length lines.now < 2 ^ 32) }
+    ensures { AreIndexed lines.now cells.new.items }
 {
-    let place = places.entry(line)?.or_insert(next);
-    Ok(*place)
+    if lines.len() < cells.len() / 2 {
+        return Ok(());
+    }
+    *cells = indexed(alloc, lines)?;
+    Ok(())
+}
+
+// The cells of these lines, of which at least half are free.
+#[inline(never)]
+fn indexed(alloc: Global, lines: &[u64]) -> Result<Vec<u32>, OutOfMemory>
+    requires { length lines.now < 2 ^ 32 }
+    ensures { IfOk result (λ cells. (place l : ℕ) → IsPlaceOf l place lines.now → IsReached cells.items l (suc place)) }
+{
+    let size = (4 * lines.len().max(4)).next_power_of_two();
+    let mut cells = Vec::new(alloc);
+    cells.resize(size, 0)?;
+    for place in 0..lines.len() {
+        let line = lines[place];
+        if !put(&mut cells, line, place as u32 + 1) {
+            return Err(AllocError);
+        }
+    }
+    Ok(cells)
+}
+
+// Puts the entry at the first free cell of those that are looked at for the line: whether there is one.
+#[inline(always)]
+fn put(cells: &mut Vec<u32>, line: u64, entry: u32) -> bool
+    requires { 0 < entry }
+    ensures reached { result ≡ true → IsReached cells.new.items line entry }
+    ensures others { (l e : ℕ) → 0 < e → IsReached cells.old.items l e → IsReached cells.new.items l e }
+{
+    for look in 0..cells.len() {
+        let cell = cell_of(cells.len(), line, look);
+        let other = cells[cell];
+        if other == 0 {
+            cells[cell] = entry;
+            return true;
+        }
+    }
+    false
 }

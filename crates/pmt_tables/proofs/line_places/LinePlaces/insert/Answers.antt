@@ -1,11 +1,14 @@
-use Rattle.std.specs.Prelude.{refl}
+use Rattle.std.proofs.Common.{◌≡◌, Some, refl, rules}
+use Rattle.std.specs.Prelude.{slice_get}
 use Rattle.pmt_tables.proofs.ListLemmas.{among}
 use Rattle.pmt_tables.proofs.line_places.LinePlaces.insert.Goals as goal
 
 pub returns-in-Some-clause-added : goal.returns-in-Some-clause-added
 returns-in-Some-clause-added c =
-    rw (among c.args.self.now c.args.line c.in-Some.place c.in-Some.ensures.place) refl
+    let at : slice_get c.args.self.now c.in-Some.place ≡ Some c.args.line = search (rules, c.in-Some.ensures.found) in
+    rw (among c.args.self.now c.args.line c.in-Some.place at) refl
 
 pub returns-in-Some-clause-lines : goal.returns-in-Some-clause-lines
 returns-in-Some-clause-lines c =
-    rw (among c.args.self.now c.args.line c.in-Some.place c.in-Some.ensures.place) c.remember.ensures
+    let at : slice_get c.args.self.now c.in-Some.place ≡ Some c.args.line = search (rules, c.in-Some.ensures.found) in
+    rw (among c.args.self.now c.args.line c.in-Some.place at) c.remember.ensures
