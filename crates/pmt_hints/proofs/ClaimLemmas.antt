@@ -19,7 +19,7 @@ use Rattle.pmt_causes.proofs.ExactFailures.{origin-exact}
 use Rattle.pmt_hints.specs.Hints.{AreThose, ByOrdered, ByPersist, ClaimsLine, HasLine, IsClaimed, IsOpenFlush, IsOpenThroughout, IsToldOpen}
 use Rattle.pmt_hints.specs.Claiming.{AreAsked, Claims, asked_at, claim_at, claimed_so, event_claims, event_flush, has_line, is_claimed_line, op_claims, or_so, verdict_claims}
 use Rattle.pmt_hints.specs.declared.places.Places.{Places}
-use Rattle.pmt_hints.specs.Near.{flush_line}
+use Rattle.pmt_hints.specs.Judging.{flush_line}
 use Rattle.pmt_hints.specs.Telling.{AreClosed, is_closed, is_place, place_of, told_so}
 use Rattle.pmt_hints.proofs.NumberLemmas.{has-push}
 use Rattle.pmt_hints.proofs.OpenAtLemmas.{filter-has, filter-rising}

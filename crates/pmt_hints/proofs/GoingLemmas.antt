@@ -17,7 +17,7 @@ use Rattle.pmt_causes.specs.Late.{AreWaited, fences_between}
 use Rattle.pmt_hints.specs.declared.per_thread.PerThread.{PerThread}
 use Rattle.pmt_hints.specs.GoingOn.{IsRest, GoesFurther, event_line, is_behind, is_joined, is_lost_or_late, line_before, line_by, line_from, line_if, line_left}
 use Rattle.pmt_hints.specs.Hints.{GoesOn, IsLostOrLate, IsStoreBy}
-use Rattle.pmt_hints.specs.Near.{store_line}
+use Rattle.pmt_hints.specs.Judging.{store_line}
 use Rattle.pmt_hints.specs.Numbers.{LastFlushes, flush_at, of_thread}
 use Rattle.pmt_hints.specs.Splitting.{event_part, is_same_place, op_part, part}
 use Rattle.pmt_hints.specs.Stepping.{any_store_by}

@@ -18,7 +18,7 @@ use Rattle.pmt_causes.specs.Counted.{counted}
 use Rattle.pmt_causes.specs.Late.{AreWaited, fences_between, is_fence, is_fence_of}
 use Rattle.pmt_causes.proofs.CountedLemmas.{counted-mono}
 use Rattle.pmt_hints.specs.Hints.{AreThose, IsStoredAfterFlush}
-use Rattle.pmt_hints.specs.Near.{left_unsafe}
+use Rattle.pmt_hints.specs.Judging.{left_unsafe}
 use Rattle.pmt_hints.proofs.GoingLemmas.{waits-told}
 use Rattle.pmt_hints.proofs.StoredAfterLemmas.{store-act, stored-bound}
 

@@ -1,9 +1,7 @@
-pub mod ChainLemmas
 pub mod ClaimLemmas
 pub mod FlagLemmas
 pub mod GoingLemmas
 pub mod LeftLemmas
-pub mod NearLemmas
 pub mod NumberLemmas
 pub mod OpenAtLemmas
 pub mod PartingLemmas

@@ -5,7 +5,7 @@ use Rattle.std.proofs.lemmas.Bool.{cases_eq, false≢true}
 use Rattle.std.proofs.lemmas.List.{append-nil}
 use Rattle.pmt_model.specs.Selections.{IsRising, Has}
 use Rattle.pmt_hints.specs.Hints.{AreThose}
-use Rattle.pmt_hints.specs.Near.{AreUpTo, if_told}
+use Rattle.pmt_hints.specs.Judging.{AreUpTo, if_told}
 
 pub has-push : (ks : List ℕ) (n i : ℕ) → Has (ks ++ n ∷ []) i ↔ (Has ks i ⊎ (n ≡ i))
 has-push [] n i = (λ h. elim h [ inl e ↦ inr e | inr none ↦ absurd none ], λ h. elim h [ inl none ↦ absurd none | inr e ↦ inl e ])

@@ -1,5 +1,5 @@
 -- Of which places flushes are told as open at a store.
-use Rattle.std.proofs.Common.{◌≡◌, ℕ, inl, inr, Bool, true, false, List, [], ◌∷◌, Option, None, Some, refl, sym, ap, ◌∙◌}
+use Rattle.std.proofs.Common.{◌≡◌, ℕ, ◌⊎◌, inl, inr, Bool, true, false, List, [], ◌∷◌, Option, None, Some, refl, sym, ap, ◌∙◌}
 use Rattle.std.specs.Prelude.{◌||◌, not}
 use Rattle.std.specs.List.{filter, list_any}
 use Rattle.std.proofs.lemmas.Bool.{false≢true}
@@ -10,13 +10,12 @@ use Rattle.pmt_model.specs.declared.event.Op.TheVariants.{Store, Clwb, ClflushOp
 use Rattle.pmt_model.specs.Values.{Layout, line_of}
 use Rattle.pmt_model.specs.Machine.{Flushes}
 use Rattle.pmt_model.specs.Traces.{Recording, IsAct, act_of, event}
-use Rattle.pmt_model.specs.Selections.{Has}
+use Rattle.pmt_model.specs.Selections.{IsRising, Has}
 use Rattle.pmt_model.specs.Keeping.{IsKeep}
 use Rattle.pmt_causes.specs.declared.failure_keys.Origin.{Origin}
 use Rattle.pmt_causes.specs.FailureKeys.{origin_of}
 use Rattle.pmt_hints.specs.Hints.{AreThose, IsOpenFlush, IsOpenThroughout}
 use Rattle.pmt_hints.specs.declared.places.Places.{Places}
-use Rattle.pmt_hints.specs.Sifting.{AreSifted}
 use Rattle.pmt_hints.specs.Telling.{has_place, is_closed, op_place, place_of, told_so}
 use Rattle.pmt_hints.proofs.OpenAtLemmas.{filter-has, filter-rising}
 
@@ -81,6 +80,18 @@ not-true-false false e = refl
 not-true : (b : Bool) → (b ≡ true → ⊥) → b ≡ false
 not-true true off = absurd (off refl)
 not-true false off = refl
+
+-- one of these events is a flush of the place that is not open
+abbrev pub IsShut : Recording → List (Option ℕ) → List ℕ → Origin → Type 0
+IsShut T labels numbers p = (j : ℕ) × (t : ℕ) × (l : ℕ) × Has numbers j × IsAct T j (Flushes t l) × (p ≡ origin_of labels j t) × (¬ IsOpenFlush T j)
+
+-- of the events with these numbers, open flushes, in their order, and places that have another flush; each flush is one of these, or of such
+-- a place
+pub record AreSifted (T : Recording) (labels : List (Option ℕ)) (numbers passed : List ℕ) (closed : Places) : Type 0 where
+  pub rising : IsRising 0 passed
+  pub are_open : (i : ℕ) → Has passed i → Has numbers i × IsOpenFlush T i
+  pub shut : (p : Origin) → has_place closed p ≡ true → IsShut T labels numbers p
+  pub each : (i t l : ℕ) → Has numbers i → IsAct T i (Flushes t l) → Has passed i ⊎ (has_place closed (origin_of labels i t) ≡ true)
 
 -- an event that is told, and one that is to be told
 module _ (T : Recording) (labels : List (Option ℕ)) (kept passed : List ℕ) (closed : Places) (keep : IsKeep T kept) (x : AreSifted T labels kept passed closed) where

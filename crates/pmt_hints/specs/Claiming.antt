@@ -11,7 +11,7 @@ use Rattle.pmt_model.specs.Values.{Layout, Span, line_of}
 use Rattle.pmt_model.specs.Machine.{Flushes}
 use Rattle.pmt_model.specs.Traces.{Recording, IsAct, act, event}
 use Rattle.pmt_model.specs.Selections.{Has}
-use Rattle.pmt_hints.specs.Near.{flush_line}
+use Rattle.pmt_hints.specs.Judging.{flush_line}
 
 -- Lines, each by whether it is claimed.
 abbrev pub Claims : Type 0

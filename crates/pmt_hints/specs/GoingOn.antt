@@ -8,7 +8,7 @@ use Rattle.pmt_model.specs.Traces.{Recording, act, act_of, event}
 use Rattle.pmt_hints.specs.declared.per_thread.PerThread.{PerThread}
 use Rattle.pmt_hints.specs.declared.split_word.Part.{Part}
 use Rattle.pmt_hints.specs.Hints.{GoesOn, IsLostOrLate}
-use Rattle.pmt_hints.specs.Near.{store_line}
+use Rattle.pmt_hints.specs.Judging.{store_line}
 use Rattle.pmt_hints.specs.Numbers.{LastFlushes, flush_at, of_thread}
 use Rattle.pmt_hints.specs.Splitting.{event_part, is_same_place, op_part}
 

@@ -2,11 +2,10 @@ pub mod Claiming
 pub mod Flagging
 pub mod GoingOn
 pub mod Hints
-pub mod Near
+pub mod Judging
 pub mod Numbers
 pub mod Parting
 pub mod Placing
-pub mod Sifting
 pub mod Splitting
 pub mod Stepping
 pub mod Telling

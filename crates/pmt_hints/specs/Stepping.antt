@@ -14,14 +14,6 @@ fence_by (Clflushes l) number t old = old
 fence_by (Fences u) number t old = if u == t then number else old
 fence_by Asserts number t old = old
 
--- The last open flush of thread t, alike: its last one, or 0 where the thread fences after it.
-abbrev pub open_by : Act → ℕ → ℕ → ℕ → ℕ
-open_by (Stores l w) number t old = old
-open_by (Flushes u l) number t old = if u == t then number else old
-open_by (Clflushes l) number t old = old
-open_by (Fences u) number t old = if u == t then 0 else old
-open_by Asserts number t old = old
-
 -- The flush of line l by thread t, alike.
 abbrev pub flush_by : Act → ℕ → ℕ → ℕ → ℕ → ℕ
 flush_by (Stores k w) number t l old = old

@@ -3,10 +3,10 @@
 ghost use Rattle.std.specs.Prelude.{◌≡◌, ◌==◌, ◌+◌, ◌-◌, ℕ, filter, IfOk, OnOk};
 ghost use Rattle.std.specs.List.{list_any};
 ghost use Rattle.pmt_model.specs.Values.{line_of as line_in};
-ghost use Rattle.pmt_model.specs.Traces.{event};
+ghost use Rattle.pmt_model.specs.Traces.{act_of, event};
+ghost use Rattle.pmt_hints.specs.Judging.{flush_line};
 ghost use Rattle.pmt_hints.specs.Claiming.{AreAsked, asked_at, claim_at, claimed_so, event_flush, has_line, is_claimed_line, op_claims, or_so, verdict_claims};
 
-use crate::near_open::flushed_line;
 use pmt_model::{Format, Op, OutOfMemory, Range, Trace, Verdict, line_of};
 use std::alloc::Global;
 use std::collections::HashMap;
@@ -164,4 +164,19 @@ fn note_line(claims: &mut Claims, line: u64) -> Result<(), OutOfMemory>
         claims.insert(line, true)?;
     }
     Ok(())
+}
+
+// The line of the op, if it is a flush that waits for a fence.
+fn flushed_line(format: Format, thread: u8, op: Op) -> Option<u64>
+    ensures { result ≡ flush_line (act_of format thread op) }
+{
+    match op {
+        Op::Clwb(addr) | Op::ClflushOpt(addr) => Some(line_of(format, addr)),
+        Op::Store(_)
+        | Op::Clflush(_)
+        | Op::Sfence
+        | Op::Mfence
+        | Op::IsPersist(_)
+        | Op::IsOrderedBefore(_, _) => None,
+    }
 }

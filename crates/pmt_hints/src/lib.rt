@@ -7,16 +7,12 @@ mod claims;
 mod flushers;
 mod going_on;
 pub mod hint;
-mod near;
-mod near_open;
-mod near_stores;
 mod next_stores;
 mod numbers;
 pub mod open_at;
 mod per_thread;
 mod places;
 pub mod short_runs;
-mod sifted;
 pub mod split_word;
 pub mod stored_after;
 

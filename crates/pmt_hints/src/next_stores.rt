@@ -30,6 +30,7 @@ impl NextStores {
     }
 
     // The next store of the thread to another line than this one.
+    #[inline(always)]
     pub(crate) fn elsewhere(&self, thread: u8, line: u64) -> u64
         ensures { result ≡ elsewhere_at self.now thread line }
     {
@@ -41,6 +42,7 @@ impl NextStores {
     }
 
     // Goes back over the op with this number.
+    #[inline(always)]
     pub(crate) fn note(&mut self, format: Format, thread: u8, op: Op, number: u64)
         ensures { (t l : ℕ) → t < 256 → elsewhere_at self.new t l ≡ store_by (act_of format thread op) thread number t l (elsewhere_at self.old t l) }
     {
@@ -57,6 +59,7 @@ impl NextStores {
     }
 
     // Goes back over a store to the line.
+    #[inline(always)]
     fn store(&mut self, thread: u8, line: u64, number: u64)
         ensures { (t l : ℕ) → t < 256 → elsewhere_at self.new t l ≡ (if thread == t then (if line == l then elsewhere_at self.old t l else number) else elsewhere_at self.old t l) }
     {

@@ -2,7 +2,7 @@
 
 ghost use Rattle.std.specs.Prelude.{◌≡◌, ◌++◌, OnOk};
 ghost use Rattle.pmt_model.specs.Selections.{IsRising};
-ghost use Rattle.pmt_hints.specs.Near.{if_told};
+ghost use Rattle.pmt_hints.specs.Judging.{if_told};
 
 use pmt_model::{OutOfMemory, Selection};
 

@@ -9,25 +9,31 @@ ghost use Rattle.pmt_tables.specs.Flags.{is_kept_at};
 ghost use Rattle.pmt_hints.specs.Hints.{AreThose, IsOpenAtStore, IsOpenFlush, IsOpenThroughout, IsToldOnPath, IsToldOpen};
 ghost use Rattle.pmt_hints.specs.Flagging.{AreFlags};
 ghost use Rattle.pmt_hints.specs.Parting.{AreParted};
-ghost use Rattle.pmt_hints.specs.Sifting.{AreSifted};
 ghost use Rattle.pmt_hints.specs.Stepping.{open_so};
 ghost use Rattle.pmt_hints.specs.Telling.{AreClosed, is_closed as is_closed_in, told_so};
 
 use crate::claims::{claimed_flushes, claims_on};
-use crate::near_open::{Parted, near_open};
 use crate::next_stores::NextStores;
 use crate::numbers::selection_of;
 use crate::per_thread::PerThread;
 use crate::places::{Places, flush_place};
-use crate::sifted::{Sifted, near_sifted};
 use pmt_causes::Origin;
 use pmt_model::{Format, Op, OutOfMemory, Selection, Trace, Verdict, line_of};
 use std::alloc::Global;
 
+// Some flushes by their numbers.
+#[derive(Drop)]
+struct Parted {
+    // Those that their thread has not fenced when it stores to another line.
+    passed: Vec<u64>,
+    // The others.
+    others: Vec<u64>,
+}
+
 /// The flushes that are kept, and that their thread has not fenced when it stores to another line: what it stores there may persist
 /// before what was flushed. `kept` is what is kept of the trace.
 ///
-/// It takes one look at each event that is kept, and a few at each flush among them. Where these do not tell, it takes one at each event.
+/// It takes one look at each event, and two at each that is kept.
 ///
 /// # Errors
 /// Where memory was refused.
@@ -47,9 +53,8 @@ pub fn open_at_store(
 /// passes has a byte. `labels` are the numbers of the labels of the events, in order; an event past their end has none. A place is a label,
 /// or without one a thread. `verdicts` are those of the trace.
 ///
-/// It takes one look at each event, and a few at each flush that is kept up to the first of its place that is not open. Where these do not
-/// tell, it takes two at each event. A label that is above the number of `labels` takes a look-up at each of its flushes. If
-/// there is such a place, it takes one at each of its flushes, and at each line of an assertion that passes.
+/// It takes one look at each event, and three at each that is kept. A label that is above the number of `labels` takes a look-up at each of
+/// its flushes. If there is such a place, it takes one at each of its flushes, and at each line of an assertion that passes.
 ///
 /// # Errors
 /// Where memory was refused.
@@ -112,7 +117,6 @@ fn are_same(labels: &[Option<u64>], paths: &[Option<u64>]) -> bool
 }
 
 // The flushes at whose place each flush that is kept is open at a store.
-#[inline(always)]
 fn open_throughout(
     alloc: Global,
     trace: &Trace,
@@ -122,7 +126,8 @@ fn open_throughout(
     requires { IsKeep trace.now kept.now }
     ensures { IfOk result (AreThose (IsOpenThroughout trace.now labels.now)) }
 {
-    let Sifted { passed, closed } = sifted_flushes(alloc, trace, labels, kept.numbers())?;
+    let Parted { passed, others } = parted_flushes(alloc, trace, kept.numbers())?;
+    let closed = closed_places(alloc, trace, labels, others.as_slice())?;
     let told = told_numbers(alloc, trace, labels, passed.as_slice(), &closed)?;
     Ok(selection_of(told))
 }
@@ -150,49 +155,6 @@ fn unclaimed(
 
 // The flushes among the events with these numbers.
 fn parted_flushes(alloc: Global, trace: &Trace, numbers: &[u64]) -> Result<Parted, OutOfMemory>
-    requires { IsRising 0 numbers.now }
-    ensures { IfOk result (λ parted. AreParted trace.now numbers.now parted.passed.items parted.others.items) }
-{
-    match near_open(alloc, trace, numbers)? {
-        Some(parted) => Ok(parted),
-        None => all_parted(alloc, trace, numbers),
-    }
-}
-
-// Open flushes among the events with these numbers, and the places of others.
-#[inline(always)]
-fn sifted_flushes(
-    alloc: Global,
-    trace: &Trace,
-    labels: &[Option<u64>],
-    numbers: &[u64],
-) -> Result<Sifted, OutOfMemory>
-    requires { IsRising 0 numbers.now }
-    ensures { IfOk result (λ sifted. AreSifted trace.now labels.now numbers.now sifted.passed.items sifted.closed) }
-{
-    match near_sifted(alloc, trace, labels, numbers)? {
-        Some(sifted) => Ok(sifted),
-        None => all_sifted(alloc, trace, labels, numbers),
-    }
-}
-
-// The same, however far away what tells of them stands.
-fn all_sifted(
-    alloc: Global,
-    trace: &Trace,
-    labels: &[Option<u64>],
-    numbers: &[u64],
-) -> Result<Sifted, OutOfMemory>
-    requires { IsRising 0 numbers.now }
-    ensures { IfOk result (λ sifted. AreSifted trace.now labels.now numbers.now sifted.passed.items sifted.closed) }
-{
-    let Parted { passed, others } = all_parted(alloc, trace, numbers)?;
-    let closed = closed_places(alloc, trace, labels, others.as_slice())?;
-    Ok(Sifted { passed, closed })
-}
-
-// The flushes among them, however far away what tells of them stands.
-fn all_parted(alloc: Global, trace: &Trace, numbers: &[u64]) -> Result<Parted, OutOfMemory>
     requires { IsRising 0 numbers.now }
     ensures { IfOk result (λ parted. AreParted trace.now numbers.now parted.passed.items parted.others.items) }
 {
@@ -310,6 +272,7 @@ fn all_open(alloc: Global, trace: &Trace) -> Result<Vec<bool>, OutOfMemory>
 }
 
 // Whether the op is a flush and the next store of its thread to another line comes before that thread's next fence.
+#[inline(always)]
 fn is_open(fences: &PerThread, stores: &NextStores, format: Format, thread: u8, op: Op) -> bool
     ensures value { result ≡ open_so fences.now stores.now (act_of format thread op) }
     ensures small { thread < 256 }

@@ -2,7 +2,7 @@
 
 ghost use Rattle.std.specs.Prelude.{◌≡◌, ◌==◌, ℕ, ◌<◌, if◌then◌else◌, length};
 ghost use Rattle.pmt_hints.specs.Numbers.{of_thread};
-ghost use Rattle.pmt_hints.specs.Stepping.{any_store_by, fence_by, open_by};
+ghost use Rattle.pmt_hints.specs.Stepping.{any_store_by, fence_by};
 ghost use Rattle.pmt_model.specs.Traces.{act_of};
 
 use pmt_model::{Format, Op};
@@ -38,6 +38,7 @@ impl PerThread {
     }
 
     // The number of the event becomes that of its thread, if it is a fence.
+    #[inline(always)]
     pub(crate) fn note_fence(&mut self, format: Format, thread: u8, op: Op, number: u64)
         ensures { (t : ℕ) → t < 256 → of_thread self.new t ≡ fence_by (act_of format thread op) number t (of_thread self.old t) }
     {
@@ -49,18 +50,6 @@ impl PerThread {
             | Op::Clflush(_)
             | Op::IsPersist(_)
             | Op::IsOrderedBefore(_, _) => {}
-        }
-    }
-
-    // The number of the event becomes that of its thread, if it is a flush that waits for a fence; 0 does, if it is a fence.
-    #[inline(always)]
-    pub(crate) fn note_open(&mut self, format: Format, thread: u8, op: Op, number: u64)
-        ensures { (t : ℕ) → t < 256 → of_thread self.new t ≡ open_by (act_of format thread op) number t (of_thread self.old t) }
-    {
-        match op {
-            Op::Clwb(_) | Op::ClflushOpt(_) => self.set(thread, number),
-            Op::Sfence | Op::Mfence => self.set(thread, 0),
-            Op::Store(_) | Op::Clflush(_) | Op::IsPersist(_) | Op::IsOrderedBefore(_, _) => {}
         }
     }
 

@@ -7,11 +7,10 @@ ghost use Rattle.pmt_causes.specs.Numbers.{number_at};
 ghost use Rattle.pmt_causes.specs.Flushing.{next_before};
 ghost use Rattle.pmt_hints.specs.Hints.{AreThose, IsAfterOpenFlush, IsStoredAfterFlush};
 ghost use Rattle.pmt_hints.specs.Flagging.{AreFlags};
-ghost use Rattle.pmt_hints.specs.Near.{left_unsafe};
+ghost use Rattle.pmt_hints.specs.Judging.{left_unsafe};
 ghost use Rattle.pmt_hints.specs.Stepping.{after_open, left_so};
 
 use crate::flushers::{LastFlushes, last_flush, note_flush};
-use crate::near_stores::{is_left_unsafe, near_stores};
 use crate::numbers::selection_of;
 use crate::per_thread::PerThread;
 use pmt_explain::SafePlaces;
@@ -28,10 +27,8 @@ type NextFlushes = HashMap<u64, u64>;
 ///
 /// `waited` is for how many fences each event of the trace of these places waits.
 ///
-/// It takes one look at each event. If a fence of its thread leaves a store unsafe, or one is never safe, it takes another one at each event,
-/// and keeps a number of it. At each such store it takes one more at each flush that the thread has not fenced, from the last one back to one
-/// of the store's line; if there is one, also at the events after the store, up to a flush of the line or a fence of the thread. Where these
-/// are more than 8 for each event and 4096 besides, it takes two at each event instead, each with one look-up.
+/// It takes one look at each event. If a fence of its thread leaves a store unsafe, or one is never safe, it takes two more, each with one
+/// look-up, and keeps two numbers of each line.
 ///
 /// # Errors
 /// Where memory was refused.
@@ -47,10 +44,7 @@ pub fn stored_after_flush(
     if !is_any_left(waited, safe.places()) {
         return Ok(selection_of(Vec::new(alloc)));
     }
-    match near_stores(alloc, trace, safe.places(), waited)? {
-        Some(numbers) => Ok(selection_of(numbers)),
-        None => all_stores(alloc, trace),
-    }
+    all_stores(alloc, trace)
 }
 
 // Whether a fence of its thread leaves a store unsafe, or one is never safe.
@@ -67,7 +61,14 @@ fn is_any_left(waited: &[u64], places: &[u64]) -> bool
     false
 }
 
-// The same, however far away what tells of them stands.
+// Whether a store of a trace with so many events waits for a fence that leaves it unsafe, or is never safe.
+fn is_left_unsafe(waited: u64, safe: u64, events: u64) -> bool
+    ensures { result ≡ left_unsafe waited safe events }
+{
+    1 <= waited || events < safe
+}
+
+// The same, where there is one.
 fn all_stores(alloc: Global, trace: &Trace) -> Result<Selection, OutOfMemory>
     ensures { IfOk result (AreThose (IsStoredAfterFlush trace.now)) }
 {

@@ -3,7 +3,7 @@ use Rattle.std.specs.Prelude.{not}
 use Rattle.std.specs.List.{filter}
 use Rattle.pmt_tables.specs.Flags.{is_kept_at}
 use Rattle.pmt_hints.proofs.PartingLemmas.{parted-flags}
-use Rattle.pmt_hints.proofs.open_at.all_parted.Goals as goal
+use Rattle.pmt_hints.proofs.open_at.parted_flushes.Goals as goal
 
 pub returns : goal.returns
 returns c =
