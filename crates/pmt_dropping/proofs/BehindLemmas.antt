@@ -1,23 +1,25 @@
 -- What stands before a place, with one more event.
-use Rattle.std.proofs.Common.{◌≡◌, ◌≢◌, ◌↔◌, ℕ, suc, ◌-◌, ◌<◌, ◌≤◌, ◌⊎◌, inl, inr, Bool, true, false, List, [], length, refl, sym, ap, subst, ◌∙◌, arith, get_or, set, get_or-set_same, get_or-set_other}
+use Rattle.std.proofs.Common.{◌≡◌, ◌≢◌, ◌↔◌, ℕ, suc, ◌-◌, ◌<◌, ◌≤◌, ◌⊎◌, inl, inr, Bool, true, false, List, ◌∷◌, length, refl, sym, ap, subst, ◌∙◌, arith, get_or, set, get_or-set_same, get_or-set_other}
 use Rattle.std.specs.Prelude.{replicate}
-use Rattle.std.proofs.lemmas.Bool.{cases_lt, cases_eq, ne_eqb}
+use Rattle.std.proofs.lemmas.Bool.{cases_lt, cases_eq}
 use Rattle.std.proofs.lemmas.List.{length-set, get_or-replicate, length-replicate}
 use Rattle.pmt_model.specs.Values.{Written}
-use Rattle.pmt_model.specs.Machine.{Act, Stores, Flushes, Fences}
-use Rattle.pmt_model.specs.Traces.{Recording, IsAct}
-use Rattle.pmt_laws.proofs.Histories.{act-unique, act-within}
+use Rattle.pmt_model.specs.Machine.{Act, Stores, Flushes, Clflushes, Fences, Asserts, count}
+use Rattle.pmt_model.specs.Traces.{Recording, IsAct, history, count_at}
+use Rattle.pmt_model.specs.Findings.{IsFlushOf, ByFlush, ByClflush}
+use Rattle.pmt_laws.proofs.Histories.{act-unique, act-within, history-act}
+use Rattle.pmt_laws.proofs.BoxLemmas.{count-store_other}
 use Rattle.pmt_reasons.specs.Reasons.{HasFlushed}
-use Rattle.pmt_explain.specs.Numbers.{Numbers, number_at, Puts}
+use Rattle.pmt_reasons.proofs.CauseLaws.{no_flush_of}
+use Rattle.pmt_explain.specs.Following.{past_of}
+use Rattle.pmt_explain.specs.Saving.{TellsSafe}
+use Rattle.pmt_dropping.specs.Upcoming.{IsNextFlush, TellsNextFlush, ByStore, ByFlushOf}
+use Rattle.pmt_explain.proofs.FirstLemmas.{first-here, first-over}
+use Rattle.pmt_explain.proofs.SavingLemmas.{pending-before}
+use Rattle.pmt_dropping.proofs.UpcomingLemmas.{within-flush}
 use Rattle.pmt_dropping.specs.declared.behind.Behind.{Behind}
 use Rattle.pmt_dropping.specs.Behind.{IsBehind}
-use Rattle.pmt_dropping.specs.Searching.{IsLastStoreTo, NoStore, StoreAt, stores_to}
-use Rattle.pmt_dropping.proofs.SearchingLemmas.{store-further}
-
--- the last store to a line, after an event that is no store to it
-last-over : (T : Recording) (l n s : ℕ) (a : Act) → IsAct T (suc n) a → stores_to l a ≡ false → IsLastStoreTo T l n s → IsLastStoreTo T l (suc n) s
-last-over T l n s a is none (NoStore zero_store counts) = NoStore zero_store (store-further T l n a is none ∙ counts)
-last-over T l n s a is none (StoreAt w at early counts) = StoreAt w at (omega arith) (counts ∙ sym (store-further T l n a is none))
+use Rattle.pmt_dropping.specs.Reasoning.{AreSafeFrom}
 
 -- whether a thread has flushed since its last fence, after one more event
 flushed-over : (T : Recording) (t n : ℕ) (a : Act) → IsAct T (suc n) a → ((l : ℕ) → a ≢ Flushes t l) → a ≢ Fences t → HasFlushed T t (suc n) ↔ HasFlushed T t (suc (suc n))
@@ -48,46 +50,80 @@ flushed-never T t n is h = elim (cases_lt h.flush (suc n)) [
       cc
 ]
 
+-- ---- The places at the next flushes
+
+abbrev pub ArePlaces : Recording → ℕ → List ℕ → Type 0
+ArePlaces T n places = (l k : ℕ) → IsNextFlush T l n k → k < past_of T → AreSafeFrom T l (count_at T l n) (get_or places k 0)
+
+-- one event flushes one line
+one-line : (T : Recording) (l m k : ℕ) → IsFlushOf T l k → IsFlushOf T m k → l ≡ m
+one-line T l m k (ByFlush t is) (ByFlush u at) = let same = act-unique T k (Flushes t l) (Flushes u m) is at in cc
+one-line T l m k (ByFlush t is) (ByClflush at) = let same = act-unique T k (Flushes t l) (Clflushes m) is at in absurd (cc)
+one-line T l m k (ByClflush is) (ByFlush u at) = let same = act-unique T k (Clflushes l) (Flushes u m) is at in absurd (cc)
+one-line T l m k (ByClflush is) (ByClflush at) = let same = act-unique T k (Clflushes l) (Clflushes m) is at in cc
+
+next-unique : (T : Recording) (l n a b : ℕ) → IsNextFlush T l n a → IsNextFlush T l n b → a ≡ b
+next-unique T l n a b x y = elim (cases_lt a b) [
+  | inl less ↦ absurd (y.none_before a less (x.has (omega (arith, y.within))))
+  | inr upto ↦ elim (cases_lt b a) [ inl less ↦ absurd (x.none_before b less (y.has (omega (arith, x.within)))) | inr same ↦ omega arith ]
+]
+
+-- a line that the event does not store to nor flush
+places-over : (T : Recording) (n l k : ℕ) (places : List ℕ) → ¬ IsFlushOf T l (suc n) → count_at T l (suc n) ≡ count_at T l n → ArePlaces T n places → IsNextFlush T l (suc n) k → k < past_of T →
+    AreSafeFrom T l (count_at T l (suc n)) (get_or places k 0)
+places-over T n l k places no_flush same old next before =
+    subst (λ c. AreSafeFrom T l c (get_or places k 0)) (sym same) (old l k (first-over (IsFlushOf T l) (past_of T) n k no_flush next) before)
+
+-- the place of one line is set at its next flush
+places-set : (T : Recording) (n l flush place : ℕ) (places : List ℕ) → past_of T < length places → IsNextFlush T l (suc n) flush → AreSafeFrom T l (count_at T l (suc n)) place →
+    ((m : ℕ) → m ≢ l → ¬ IsFlushOf T m (suc n)) → ((m : ℕ) → m ≢ l → count_at T m (suc n) ≡ count_at T m n) → ArePlaces T n places → ArePlaces T (suc n) (set places flush place)
+places-set T n l flush place places size next safe no_flush no_store old m k next_m before = elim (cases_eq m l) [
+  | inl e ↦
+      let own : k ≡ flush = next-unique T l (suc n) k flush (subst (λ j. IsNextFlush T j (suc n) k) e next_m) next in
+      let value : get_or (set places flush place) k 0 ≡ place = ap (λ j. get_or (set places flush place) j 0) own ∙ get_or-set_same places flush place 0 (omega (arith, size, own, before)) in
+      subst (AreSafeFrom T m (count_at T m (suc n))) (sym value) (subst (λ j. AreSafeFrom T j (count_at T j (suc n)) place) (sym e) safe)
+  | inr apart ↦
+      let differ : k ≢ flush = λ same. apart (one-line T m l k (next_m.has before).1 (subst (IsFlushOf T l) (sym same) (next.has (omega (arith, same, before))).1)) in
+      subst (AreSafeFrom T m (count_at T m (suc n))) (sym (get_or-set_other places flush k place 0 differ)) (places-over T n m k places (no_flush m apart) (no_store m apart) old next_m before)
+]
+
+-- after a store
+places-store : (T : Recording) (n l flush place : ℕ) (w : Written) (places : List ℕ) → IsAct T (suc n) (Stores l w) → TellsNextFlush T (suc n) flush → TellsSafe T (suc n) place → past_of T < length places →
+    ArePlaces T n places → ArePlaces T (suc n) (set places flush place)
+places-store T n l flush place w places is next safe size old =
+    places-set T n l flush place places size (next l (ByStore w is)) (λ k inside. pending-before T l k (suc n) place inside (safe l w is))
+    (λ m apart. no_flush_of T m (suc n) (Stores l w) is (λ t e. cc) (λ e. cc))
+    (λ m apart. ap (count m) (history-act T n (Stores l w) is) ∙ count-store_other m l w (history T n) apart) old
+
+-- after a flush
+places-flush : (T : Recording) (n l flush : ℕ) (places : List ℕ) → IsFlushOf T l (suc n) → ((m : ℕ) → m ≢ l → ¬ IsFlushOf T m (suc n)) → ((m : ℕ) → count_at T m (suc n) ≡ count_at T m n) →
+    TellsNextFlush T (suc n) flush → past_of T < length places → ArePlaces T n places → ArePlaces T (suc n) (set places flush (get_or places (suc n) 0))
+places-flush T n l flush places own others same next size old =
+    let inside : suc n < past_of T = omega (arith, within-flush T l (suc n) own) in
+    let here : IsNextFlush T l n (suc n) = first-here (IsFlushOf T l) (past_of T) n (omega (arith, inside)) own in
+    places-set T n l flush (get_or places (suc n) 0) places size (next l (ByFlushOf own)) (subst (λ c. AreSafeFrom T l c (get_or places (suc n) 0)) (sym (same l)) (old l (suc n) here inside)) others (λ m apart. same m) old
+
+-- after an event that is neither
+places-other : (T : Recording) (n : ℕ) (a : Act) (places : List ℕ) → IsAct T (suc n) a → ((t l : ℕ) → a ≢ Flushes t l) → ((l : ℕ) → a ≢ Clflushes l) → ((l : ℕ) → count l (a ∷ history T n) ≡ count l (history T n)) →
+    ArePlaces T n places → ArePlaces T (suc n) places
+places-other T n a places is no_flush no_clflush same old l k next before =
+    places-over T n l k places (no_flush_of T l (suc n) a is (λ t. no_flush t l) (no_clflush l)) (ap (count l) (history-act T n a is) ∙ same l) old next before
+
+-- ---- All that stands before a place
+
 -- before any event
-pub behind-start : (T : Recording) (b : Behind) → b.stores ≡ [] → b.flushed ≡ replicate 256 false → IsBehind T 0 b
-behind-start T b none quiet = record {
-  stores = λ l. subst (λ (s : Numbers). IsLastStoreTo T l 0 (number_at 0 s l)) (sym none) (NoStore refl refl);
+pub behind-start : (T : Recording) (b : Behind) (many : ℕ) → past_of T < many → b.places.items ≡ replicate many 0 → b.flushed ≡ replicate 256 false → IsBehind T 0 b
+behind-start T b many long none quiet = record {
+  size = omega (arith, long, ap (λ (xs : List ℕ). length xs) none, length-replicate {A = ℕ} many 0);
+  places = λ l k next before.
+      let value : get_or b.places.items k 0 ≡ 0 = ap (λ xs. get_or xs k 0) none ∙ get_or-replicate many k 0 0 (omega (arith, long, before)) in
+      let zero_count : count_at T l 0 ≡ 0 = refl in
+      subst (AreSafeFrom T l (count_at T l 0)) (sym value) (λ j inside. (λ h. absurd (omega (arith, h)), λ h. absurd (omega (arith, zero_count, h))));
   threads = ap (λ xs. length xs) quiet ∙ length-replicate 256 false;
   flushed = λ t small. (
     λ e. let f = sym e ∙ ap (λ xs. get_or xs t false) quiet ∙ get_or-replicate 256 t false false small in absurd (cc),
     λ h. absurd (omega (arith, h.before, (act-within T h.flush (Flushes t h.line) h.is_flush).0)),
   );
-}
-
--- over a store to the line
-pub behind-store : (T : Recording) (n l number : ℕ) (w : Written) (b : Behind) (stores : Numbers) → IsAct T (suc n) (Stores l w) → number ≡ suc n → IsBehind T n b → Puts l number b.stores stores →
-    IsBehind T (suc n) (record { stores = stores; flushed = b.flushed })
-behind-store T n l number w b stores is same old put = record {
-  stores = λ k. elim (cases_eq k l) [
-    | inl e ↦
-        let value : number_at 0 stores k ≡ suc n = ap (number_at 0 stores) e ∙ put.here 0 ∙ same in
-        subst (IsLastStoreTo T k (suc n)) (sym value) (StoreAt w (subst (λ j. IsAct T (suc n) (Stores j w)) (sym e) is) (omega arith) refl)
-    | inr apart ↦
-        let other : (l ≡ k) → ⊥ = λ e. apart (sym e) in
-        subst (IsLastStoreTo T k (suc n)) (sym (put.others 0 k apart)) (last-over T k n _ (Stores l w) is (ne_eqb l k other) (old.stores k))
-  ];
-  threads = old.threads;
-  flushed = λ t small. both (old.flushed t small) (flushed-over T t n (Stores l w) is (λ k e. cc) (λ e. cc));
-}
-  where
-    both : {A B C : Type 0} → A ↔ B → B ↔ C → A ↔ C
-    both x y = (λ a. y.0 (x.0 a), λ c. x.1 (y.1 c))
-
--- over an event that stores, flushes and fences nothing
-pub behind-other : (T : Recording) (n : ℕ) (a : Act) (b : Behind) → IsAct T (suc n) a → ((l : ℕ) → stores_to l a ≡ false) → ((t l : ℕ) → a ≢ Flushes t l) → ((t : ℕ) → a ≢ Fences t) → IsBehind T n b →
-    IsBehind T (suc n) b
-behind-other T n a b is no_store no_flush no_fence old = record {
-  stores = λ l. last-over T l n _ a is (no_store l) (old.stores l);
-  threads = old.threads;
-  flushed = λ t small.
-      let x = old.flushed t small in
-      let y = flushed-over T t n a is (no_flush t) (no_fence t) in
-      (λ e. y.0 (x.0 e), λ h. x.1 (y.1 h));
 }
 
 -- over a flush by the thread, or a fence, where this says whether it has flushed then
@@ -104,21 +140,67 @@ marked T n t u mark a flushed is no_flush no_fence size told small old = go (cas
         let y = flushed-over T u n a is (λ l. no_flush u l apart) (no_fence u apart) in
         (λ x. y.0 (old.0 (sym value ∙ x)), λ h. value ∙ old.1 (y.1 h))
 
-pub behind-flush : (T : Recording) (n t l : ℕ) (b : Behind) → IsAct T (suc n) (Flushes t l) → IsBehind T n b → IsBehind T (suc n) (record { stores = b.stores; flushed = set b.flushed t true })
-behind-flush T n t l b is old = record {
-  stores = λ k. last-over T k n _ (Flushes t l) is refl (old.stores k);
-  threads = length-set b.flushed t true ∙ old.threads;
-  flushed = λ u small.
-      marked T n t u true (Flushes t l) b.flushed is (λ v k apart e. apart (cc)) (λ v apart e. cc) old.threads (λ e. flushed-now T t l n is, λ h. refl) small (old.flushed u small);
+unmarked : (T : Recording) (n : ℕ) (a : Act) (flushed : List Bool) → IsAct T (suc n) a → ((t l : ℕ) → a ≢ Flushes t l) → ((t : ℕ) → a ≢ Fences t) → ((t : ℕ) → t < 256 → (get_or flushed t false ≡ true) ↔ HasFlushed T t (suc n)) →
+    (t : ℕ) → t < 256 → (get_or flushed t false ≡ true) ↔ HasFlushed T t (suc (suc n))
+unmarked T n a flushed is no_flush no_fence old t small =
+    let x = old t small in
+    let y = flushed-over T t n a is (no_flush t) (no_fence t) in
+    (λ e. y.0 (x.0 e), λ h. x.1 (y.1 h))
+
+pub behind-store : (T : Recording) (n l flush place : ℕ) (w : Written) (b c : Behind) → IsAct T (suc n) (Stores l w) → TellsNextFlush T (suc n) flush → TellsSafe T (suc n) place → IsBehind T n b →
+    c.places.items ≡ set b.places.items flush place → c.flushed ≡ b.flushed → IsBehind T (suc n) c
+behind-store T n l flush place w b c is next safe old places flushed = record {
+  size = omega (arith, old.size, ap (λ xs. length xs) places, length-set b.places.items flush place);
+  places = subst (ArePlaces T (suc n)) (sym places) (places-store T n l flush place w b.places.items is next safe old.size old.places);
+  threads = ap (λ xs. length xs) flushed ∙ old.threads;
+  flushed = λ u small. rw flushed (unmarked T n (Stores l w) b.flushed is (λ t k e. cc) (λ t e. cc) old.flushed u small);
 }
 
-pub behind-fence : (T : Recording) (n t : ℕ) (b : Behind) → IsAct T (suc n) (Fences t) → IsBehind T n b → IsBehind T (suc n) (record { stores = b.stores; flushed = set b.flushed t false })
-behind-fence T n t b is old = record {
-  stores = λ k. last-over T k n _ (Fences t) is refl (old.stores k);
-  threads = length-set b.flushed t false ∙ old.threads;
-  flushed = λ u small.
-      marked T n t u false (Fences t) b.flushed is (λ v k apart e. cc) (λ v apart e. apart (cc)) old.threads (λ e. absurd (cc), λ h. absurd (flushed-never T t n is h)) small (old.flushed u small);
+pub behind-clflush : (T : Recording) (n l number flush : ℕ) (b c : Behind) → IsAct T (suc n) (Clflushes l) → number ≡ suc n → TellsNextFlush T (suc n) flush → IsBehind T n b →
+    c.places.items ≡ set b.places.items flush (get_or b.places.items number 0) → c.flushed ≡ b.flushed → IsBehind T (suc n) c
+behind-clflush T n l number flush b c is same next old places flushed = record {
+  size = omega (arith, old.size, ap (λ xs. length xs) places, length-set b.places.items flush (get_or b.places.items number 0));
+  places = subst (ArePlaces T (suc n)) (sym (places ∙ ap (λ i. set b.places.items flush (get_or b.places.items i 0)) same))
+      (places-flush T n l flush b.places.items (ByClflush is) (λ m apart. no_flush_of T m (suc n) (Clflushes l) is (λ t e. cc) (λ e. apart (cc))) (λ m. ap (count m) (history-act T n (Clflushes l) is)) next old.size old.places);
+  threads = ap (λ xs. length xs) flushed ∙ old.threads;
+  flushed = λ u small. rw flushed (unmarked T n (Clflushes l) b.flushed is (λ t k e. cc) (λ t e. cc) old.flushed u small);
 }
+
+pub behind-flush : (T : Recording) (n t l number flush : ℕ) (b c : Behind) → IsAct T (suc n) (Flushes t l) → number ≡ suc n → TellsNextFlush T (suc n) flush → IsBehind T n b →
+    c.places.items ≡ set b.places.items flush (get_or b.places.items number 0) → c.flushed ≡ set b.flushed t true → IsBehind T (suc n) c
+behind-flush T n t l number flush b c is same next old places flushed = record {
+  size = omega (arith, old.size, ap (λ xs. length xs) places, length-set b.places.items flush (get_or b.places.items number 0));
+  places = subst (ArePlaces T (suc n)) (sym (places ∙ ap (λ i. set b.places.items flush (get_or b.places.items i 0)) same))
+      (places-flush T n l flush b.places.items (ByFlush t is) (λ m apart. no_flush_of T m (suc n) (Flushes t l) is (λ u e. apart (cc)) (λ e. cc)) (λ m. ap (count m) (history-act T n (Flushes t l) is)) next old.size old.places);
+  threads = ap (λ xs. length xs) flushed ∙ length-set b.flushed t true ∙ old.threads;
+  flushed = λ u small. rw flushed (marked T n t u true (Flushes t l) b.flushed is (λ v k apart e. apart (cc)) (λ v apart e. cc) old.threads (λ e. flushed-now T t l n is, λ h. refl) small (old.flushed u small));
+}
+
+pub behind-fence : (T : Recording) (n t : ℕ) (b c : Behind) → IsAct T (suc n) (Fences t) → IsBehind T n b → c.places.items ≡ b.places.items → c.flushed ≡ set b.flushed t false → IsBehind T (suc n) c
+behind-fence T n t b c is old places flushed = record {
+  size = omega (arith, old.size, ap (λ xs. length xs) places);
+  places = subst (ArePlaces T (suc n)) (sym places) (places-other T n (Fences t) b.places.items is (λ u l e. cc) (λ l e. cc) (λ l. refl) old.places);
+  threads = ap (λ xs. length xs) flushed ∙ length-set b.flushed t false ∙ old.threads;
+  flushed = λ u small. rw flushed (marked T n t u false (Fences t) b.flushed is (λ v k apart e. cc) (λ v apart e. apart (cc)) old.threads (λ e. absurd (cc), λ h. absurd (flushed-never T t n is h)) small (old.flushed u small));
+}
+
+pub behind-assert : (T : Recording) (n : ℕ) (b : Behind) → IsAct T (suc n) Asserts → IsBehind T n b → IsBehind T (suc n) b
+behind-assert T n b is old = record {
+  size = old.size;
+  places = places-other T n Asserts b.places.items is (λ u l e. cc) (λ l e. cc) (λ l. refl) old.places;
+  threads = old.threads;
+  flushed = unmarked T n Asserts b.flushed is (λ t k e. cc) (λ t e. cc) old.flushed;
+}
+
+-- from which place on the stores before a flush are safe
+pub flush-place : (T : Recording) (t l i : ℕ) (b : Behind) → IsAct T i (Flushes t l) → IsBehind T (i - 1) b → AreSafeFrom T l (count_at T l i) (get_or b.places.items i 0)
+flush-place T t l i b is old =
+    let within = act-within T i (Flushes t l) is in
+    let e : suc (i - 1) ≡ i = omega (arith, within) in
+    let at : IsAct T (suc (i - 1)) (Flushes t l) = subst (λ k. IsAct T k (Flushes t l)) (sym e) is in
+    let same : count_at T l (suc (i - 1)) ≡ count_at T l (i - 1) = ap (count l) (history-act T (i - 1) (Flushes t l) at) in
+    let here : IsNextFlush T l (i - 1) i = subst (IsNextFlush T l (i - 1)) e (first-here (IsFlushOf T l) (past_of T) (i - 1) (omega (arith, within)) (ByFlush t at)) in
+    subst (λ c. AreSafeFrom T l c (get_or b.places.items i 0)) (sym same ∙ ap (count_at T l) e) (old.places l i here (omega (arith, within)))
 
 -- what is told of the thread of a fence, whose number is a thread's
 pub flushed-by : (T : Recording) (t i : ℕ) (b : Behind) → t < 256 → IsAct T i (Fences t) → IsBehind T (i - 1) b → (get_or b.flushed t false ≡ false → ¬ HasFlushed T t i) × (get_or b.flushed t false ≡ true → HasFlushed T t i)

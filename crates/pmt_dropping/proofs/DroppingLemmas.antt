@@ -1,10 +1,11 @@
 -- The list of the dropped events, event by event.
-use Rattle.std.proofs.Common.{◌≡◌, ◌↔◌, ℕ, suc, ◌<◌, ◌≤◌, ◌⊎◌, inl, inr, List, [], ◌∷◌, ◌++◌, length, map, Option, None, Some, refl, sym, subst, arith}
+use Rattle.std.proofs.Common.{◌≡◌, ◌↔◌, ℕ, suc, ◌+◌, ◌<◌, ◌≤◌, ◌⊎◌, inl, inr, List, [], ◌∷◌, ◌++◌, length, map, Option, None, Some, refl, sym, subst, arith}
 use Rattle.std.proofs.lemmas.Bool.{cases_lt}
 use Rattle.pmt_model.specs.Machine.{Act, Flushes, Clflushes, Fences}
 use Rattle.pmt_model.specs.Traces.{Recording, IsAct}
-use Rattle.pmt_model.specs.Selections.{IsRising}
-use Rattle.pmt_model.specs.Keeping.{IsKept}
+use Rattle.pmt_model.specs.Selections.{IsRising, Has}
+use Rattle.pmt_model.specs.Keeping.{IsKeep, IsKept}
+use Rattle.pmt_laws.proofs.KeepLemmas.{keep_is_selection}
 use Rattle.pmt_laws.proofs.Histories.{act-within}
 use Rattle.pmt_reasons.specs.declared.reason.Reason.{Reason}
 use Rattle.pmt_reasons.specs.Reasons.{IsReason, OfFlush, OfClflush, OfFence}
@@ -98,3 +99,36 @@ dropped-all T n list past x = record {
   rising = x.rising;
   just = λ i r. (λ h. ((x.just i r).0 h).1, λ why. (x.just i r).1 (omega (arith, past, (reason-within T i r why).1), why));
 }
+
+-- ---- Where all events are kept
+
+room : (x b : ℕ) (xs : List ℕ) → x ≤ b → IsRising x xs → ((k : ℕ) → Has xs k → k ≤ b) → x + length xs ≤ b
+room x b [] upto rising within = omega (arith, upto)
+room x b (y ∷ ys) upto rising within = omega (arith, rising.0, room y b ys (within y (inl refl)) rising.1 (λ k has. within k (inr has)))
+
+all-has : (low : ℕ) (xs : List ℕ) → IsRising low xs → ((k : ℕ) → Has xs k → k ≤ low + length xs) → (k : ℕ) → low < k → k ≤ low + length xs → Has xs k
+all-has low [] rising within k above upto = absurd (omega (arith, above, upto))
+all-has low (x ∷ xs) rising within k above upto = go (cases_lt x k) (λ later. all-has x xs rising.1 (λ j has. omega (arith, first, within j (inr has))) k later (omega (arith, first, upto)))
+  where
+    first : x ≡ suc low
+    first = omega (arith, rising.0, room x (low + suc (length xs)) xs (within x (inl refl)) rising.1 (λ j has. within j (inr has)))
+
+    go : (x < k) ⊎ (k ≤ x) → (x < k → Has xs k) → Has (x ∷ xs) k
+    go (inl later) rest = inr (rest later)
+    go (inr here) rest = inl (omega (arith, first, here, above))
+
+-- what has a reason is not kept
+reason-not_kept : (T : Recording) (i : ℕ) (r : Reason) → IsReason T i r → IsKept T i → ⊥
+reason-not_kept T i r (OfFlush t l is why) = (reason_exists T i (Flushes t l) is).1 (r, OfFlush t l is why)
+reason-not_kept T i r (OfClflush l is why) = (reason_exists T i (Clflushes l) is).1 (r, OfClflush l is why)
+reason-not_kept T i r (OfFence t is why) = (reason_exists T i (Fences t) is).1 (r, OfFence t is why)
+
+-- no event is dropped
+pub dropped-nothing : (T : Recording) (kept : List ℕ) (list : List Dropped) → IsKeep T kept → length kept ≡ length T.events → list ≡ [] → AreDropped T list
+dropped-nothing T kept list keep all none = subst (AreDropped T) (sym none) (record { rising = tt; just = λ i r. (λ x. absurd x, λ why. never i r why (reason-within T i r why)) })
+  where
+    inside : (k : ℕ) → Has kept k → k ≤ 0 + length kept
+    inside k has = omega (arith, all, (keep_is_selection T kept keep).within k has)
+
+    never : (i : ℕ) (r : Reason) → IsReason T i r → (1 ≤ i) × (i ≤ length T.events) → ⊥
+    never i r why within = reason-not_kept T i r why ((keep.just i).0 (all-has 0 kept keep.rising inside i (omega (arith, within.0)) (omega (arith, within.1, all))))

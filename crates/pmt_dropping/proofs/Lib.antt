@@ -1,4 +1,4 @@
-pub mod FollowingLemmas
-pub mod SearchingLemmas
+pub mod UpcomingLemmas
+pub mod ReasonLemmas
 pub mod DroppingLemmas
 pub mod BehindLemmas

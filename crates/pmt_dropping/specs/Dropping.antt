@@ -1,7 +1,7 @@
 -- The dropped events of a trace.
-use Rattle.std.specs.Prelude.{◌≡◌, ◌↔◌, ◌⊎◌, ℕ, List, [], ◌∷◌, ◌++◌, map, Option, None, Some, MatchOption}
+use Rattle.std.specs.Prelude.{◌≡◌, ◌↔◌, ◌⊎◌, ℕ, ◌<◌, ◌≤◌, ◌==◌, Bool, false, List, [], ◌∷◌, ◌++◌, drop, map, slice_get, Option, None, Some, MatchOption}
 use Rattle.pmt_model.specs.Traces.{Recording}
-use Rattle.pmt_model.specs.Selections.{IsRising}
+use Rattle.pmt_model.specs.Selections.{IsRising, Has}
 use Rattle.pmt_model.specs.Keeping.{IsKept}
 use Rattle.pmt_reasons.specs.declared.reason.Reason.{Reason}
 use Rattle.pmt_reasons.specs.Reasons.{IsReason}
@@ -28,3 +28,17 @@ pub record AreDropped (T : Recording) (list : List Dropped) : Type 0 where
 -- Event i is kept, or this is why it is dropped.
 abbrev pub TellsReason : Recording → ℕ → Option Reason → Type 0
 TellsReason T i o = MatchOption o (IsKept T i) (IsReason T i)
+
+-- The number stands in the list at the place.
+abbrev pub is_number : Option ℕ → ℕ → Bool
+is_number None number = false
+is_number (Some k) number = k == number
+
+abbrev pub has_at : List ℕ → ℕ → ℕ → Bool
+has_at list place number = is_number (slice_get list place) number
+
+-- From the place on stand the numbers of the list that are greater than n.
+pub record IsPast (list : List ℕ) (n place : ℕ) : Type 0 where
+  pub within : place ≤ n
+  pub rising : IsRising n (drop place list)
+  pub has : (k : ℕ) → n < k → Has list k → Has (drop place list) k

@@ -1,4 +1,4 @@
 pub mod Dropping
-pub mod Following
-pub mod Searching
+pub mod Upcoming
+pub mod Reasoning
 pub mod Behind

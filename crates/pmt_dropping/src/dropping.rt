@@ -1,30 +1,23 @@
 //! Why each dropped flush or fence is dropped.
 
-ghost use Rattle.std.specs.Prelude.{◌≡◌, ◌+◌, ◌<◌, ◌^◌, if◌then◌else◌, IfOk, IfSome, OnOk};
+ghost use Rattle.std.specs.Prelude.{◌≡◌, ◌+◌, ◌<◌, ◌^◌, if◌then◌else◌, IfOk, OnOk};
 ghost use Rattle.pmt_model.specs.Keeping.{IsKeep};
-ghost use Rattle.pmt_dropping.specs.Dropping.{AreDropped, with_listed};
-ghost use Rattle.pmt_dropping.specs.Following.{AreFollowing};
-ghost use Rattle.pmt_dropping.specs.Searching.{has_at as stands_at};
+ghost use Rattle.pmt_dropping.specs.Upcoming.{AreNextFlushes, AreOwnFences};
+ghost use Rattle.pmt_dropping.specs.Dropping.{AreDropped, has_at as stands_at, with_listed};
 
 use crate::behind::Behind;
 use crate::dropped_event::Dropped;
-use crate::following::{Following, all_following};
-use crate::searching::searched;
+use crate::upcoming::{next_flushes, own_fences};
 use pmt_explain::SafePlaces;
 use pmt_model::{OutOfMemory, Selection};
 use pmt_reasons::Reason;
 use std::alloc::Global;
 
-// At so many events for each one so far may searches look, and at so many more.
-const LOOKS: u64 = 8;
-
-const MORE: u64 = 4096;
-
 /// The flushes, clflushes and fences of the trace that are dropped, by rising numbers, each with the reason why; `kept` has the events that
 /// are not dropped.
 ///
-/// It looks at each event once, and for a dropped one at those around it. Where these get to more than some 8 an event, it goes over the
-/// events twice instead, with at most one look-up for each.
+/// It takes three looks at each event if one is dropped, and one more at each flush of the line between a dropped flush and the next one of
+/// its thread.
 ///
 /// # Errors
 /// Where memory was refused.
@@ -36,38 +29,16 @@ pub fn dropped_events(
     requires { IsKeep safe.now.trace.now kept.now }
     ensures { IfOk result (λ list. AreDropped safe.now.trace.now list.items) }
 {
-    match dropped_few(alloc, safe, kept.numbers())? {
-        Some(list) => Ok(list),
-        None => dropped_many(alloc, safe, kept.numbers()),
+    let trace = safe.trace();
+    let kept = kept.numbers();
+    let count = kept.len();
+    let events = trace.len();
+    if count == events {
+        return Ok(Vec::new(alloc));
     }
-}
-
-// Those that are dropped, by a search for each; none where that takes too many looks.
-fn dropped_few(
-    alloc: Global,
-    safe: &SafePlaces<'_>,
-    kept: &[u64],
-) -> Result<Option<Vec<Dropped>>, OutOfMemory>
-    requires { IsKeep safe.now.trace.now kept.now }
-    ensures { IfOk result (λ found. IfSome found (λ list. AreDropped safe.now.trace.now list.items)) }
-{
-    let events = safe.trace().events();
-    let mut list = Vec::new(alloc);
-    let mut place = 0;
-    let mut looks = 0;
-    for index in 0..events.len() {
-        let event = events[index];
-        let number = index as u64 + 1;
-        let is_kept = has_at(kept, place, number);
-        let told = searched(safe, event.thread, event.op, number, is_kept);
-        looks += told.looks;
-        if LOOKS * number + MORE < looks {
-            return Ok(None);
-        }
-        place = past(place, is_kept);
-        list_event(&mut list, number, told.reason)?;
-    }
-    Ok(Some(list))
+    let fences = own_fences(alloc, trace)?;
+    let flushes = next_flushes(alloc, trace)?;
+    dropped_before(alloc, safe, kept, fences.as_slice(), flushes.as_slice())
 }
 
 // Whether the number stands in the list at the place.
@@ -88,41 +59,42 @@ fn past(place: usize, stands: bool) -> usize
     if stands { place + 1 } else { place }
 }
 
-// Those that are dropped, by a pass back over the events and one forward.
-fn dropped_many(
-    alloc: Global,
-    safe: &SafePlaces<'_>,
-    kept: &[u64],
-) -> Result<Vec<Dropped>, OutOfMemory>
-    requires { IsKeep safe.now.trace.now kept.now }
-    ensures { IfOk result (λ list. AreDropped safe.now.trace.now list.items) }
-{
-    let following = all_following(alloc, safe.trace())?;
-    dropped_before(alloc, safe, kept, following.as_slice())
-}
-
-// The events that are dropped, where this is what comes after each flush.
+// The events that are dropped, where these are the next fences and flushes.
 fn dropped_before(
     alloc: Global,
     safe: &SafePlaces<'_>,
     kept: &[u64],
-    after: &[Following],
+    fences: &[u64],
+    flushes: &[u64],
 ) -> Result<Vec<Dropped>, OutOfMemory>
     requires kept { IsKeep safe.now.trace.now kept.now }
-    requires following { AreFollowing safe.now.trace.now after.now }
+    requires fences { AreOwnFences safe.now.trace.now fences.now }
+    requires flushes { AreNextFlushes safe.now.trace.now flushes.now }
     ensures { IfOk result (λ list. AreDropped safe.now.trace.now list.items) }
 {
-    let format = safe.trace().format();
-    let events = safe.trace().events();
-    let mut behind = Behind::new(alloc);
+    let trace = safe.trace();
+    let places = safe.places();
+    let events = trace.events();
+    let mut behind = Behind::new(alloc, trace)?;
     let mut list = Vec::new(alloc);
     let mut place = 0;
     for index in 0..events.len() {
         let event = events[index];
+        let fence = fences[index];
+        let flush = flushes[index];
+        let safe_from = places[index];
         let number = index as u64 + 1;
         let is_kept = has_at(kept, place, number);
-        let reason = behind.reason(safe, event.thread, event.op, number, is_kept, after[index]);
-        behind.go_on(format, event.thread, event.op, number)?;
+        let reason = behind.reason(
+            trace,
+            flushes,
+            fence,
+            event.thread,
+            event.op,
+            number,
+            is_kept,
+        );
+        behind.go_on(event.thread, event.op, number, flush, safe_from);
         place = past(place, is_kept);
         list_event(&mut list, number, reason)?;
     }

@@ -1,5 +1,5 @@
 use Rattle.pmt_dropping.specs.Behind.{IsBehind}
-use Rattle.pmt_dropping.specs.Searching.{IsPast}
+use Rattle.pmt_dropping.specs.Dropping.{IsPast}
 use Rattle.pmt_dropping.proofs.DroppingLemmas.{AreDroppedTo}
 use Rattle.pmt_dropping.proofs.dropping.dropped_before.Given as goal
 
