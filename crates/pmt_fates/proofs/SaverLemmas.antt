@@ -1,7 +1,7 @@
 -- Which store is safe last by a place, and the next fence of a thread, event by event.
 use Rattle.std.proofs.Common.{◌≡◌, ◌≢◌, ℕ, zero, suc, ◌+◌, ◌<◌, ◌≤◌, ◌⊎◌, inl, inr, true, false, List, [], ◌∷◌, ◌++◌, length, length-append, get_or, set, get_or-set_same, get_or-set_other, Some, refl, sym, ap, subst, ◌∙◌, arith}
 use Rattle.std.specs.Prelude.{◌==◌, if◌then◌else◌, nat_lt, replicate, slice_get, unwrap_or}
-use Rattle.std.proofs.lemmas.Bool.{cases_lt, cases_eq, eq-eqb, ne_eqb, lt-ltb, le-ltb, false≢true}
+use Rattle.std.proofs.lemmas.Bool.{cases_lt, cases_eq, ne_eqb, lt-ltb, le-ltb, false≢true}
 use Rattle.std.proofs.lemmas.List.{length-set, length-replicate}
 use Rattle.std.proofs.lemmas.Option.{none-some, same_Some, slice_get-get_or, get_or_from_slice_get, slice_get_within, slice_get_past}
 use Rattle.pmt_model.specs.declared.event.Event.{Event}
@@ -13,14 +13,14 @@ use Rattle.pmt_model.specs.Traces.{Recording, IsAct, act_of, event}
 use Rattle.pmt_laws.proofs.Histories.{act-unique, act-within, event-some}
 use Rattle.pmt_explain.specs.Following.{IsFenceAfter, IsFirst, past_of}
 use Rattle.pmt_explain.specs.Saving.{AreSafePlaces, IsSafePlace, TellsSafe}
-use Rattle.pmt_explain.proofs.FirstLemmas.{first-here, first-over}
 use Rattle.pmt_explain.proofs.GroupingLemmas.{get-before, get-last}
 use Rattle.pmt_fates.specs.declared.fate.Fate.{Fate}
 use Rattle.pmt_fates.specs.declared.fate.Fate.TheVariants.{Claim, Left}
 use Rattle.pmt_fates.specs.declared.saved_before.Savings.{Savings}
 use Rattle.pmt_fates.specs.Places.{fate_at, is_same}
 use Rattle.pmt_fates.specs.Saved.{IsOwnFence, IsSavedAt, TellsSaved}
-use Rattle.pmt_fates.specs.Savers.{AreLast, AreOwnFences, AreSavers, IsLastBefore, IsSaver, fence_by, saved_by, saved_if, with_saver}
+use Rattle.pmt_dropping.specs.Upcoming.{AreOwnFences}
+use Rattle.pmt_fates.specs.Savers.{AreLast, AreSavers, IsLastBefore, IsSaver, saved_by, saved_if, with_saver}
 
 -- there is one first number
 first-unique : (P : ℕ → Type 0) (past a b : ℕ) → IsFirst P past a → IsFirst P past b → a ≡ b
@@ -38,32 +38,6 @@ saved-unique T k p q x y =
 
 saved-within : (T : Recording) (k p : ℕ) → IsSavedAt T k p → (1 ≤ k) × (k ≤ length T.events)
 saved-within T k p x = act-within T k (Stores x.0 x.1) x.2
-
--- a fence, going back
-pub fence-back : (T : Recording) (n number t x u : ℕ) (f : Layout) (o : Op) → IsAct T (suc n) (act_of f u o) → number ≡ suc n → IsFirst (IsFenceAfter T t (suc n)) (past_of T) x →
-    IsFirst (IsFenceAfter T t n) (past_of T) (fence_by o u number t x)
-fence-back T n number t x u f o is same first = by_op o is
-  where
-    over : (a : Act) → IsAct T (suc n) a → a ≢ Fences t → IsFirst (IsFenceAfter T t n) (past_of T) x
-    over a is other = first-over (λ k. IsAct T k (Fences t)) (past_of T) n x (λ g. other (act-unique T (suc n) a (Fences t) is g)) first
-
-    here : IsAct T (suc n) (Fences u) → IsFirst (IsFenceAfter T t n) (past_of T) (if u == t then number else x)
-    here is = elim (cases_eq u t) [
-      | inl e ↦
-          let own : IsAct T (suc n) (Fences t) = subst (λ v. IsAct T (suc n) (Fences v)) e is in
-          rw (eq-eqb u t e, same) (first-here (λ k. IsAct T k (Fences t)) (past_of T) n (omega (arith, (act-within T (suc n) (Fences t) own).1)) own)
-      | inr apart ↦ rw (ne_eqb u t apart) (over (Fences u) is (λ e. apart (cc)))
-    ]
-
-    by_op : (o : Op) → IsAct T (suc n) (act_of f u o) → IsFirst (IsFenceAfter T t n) (past_of T) (fence_by o u number t x)
-    by_op (Store w) is = over (Stores (line_of f w.addr) w) is (λ e. cc)
-    by_op (Clwb a) is = over (Flushes u (line_of f a)) is (λ e. cc)
-    by_op (ClflushOpt a) is = over (Flushes u (line_of f a)) is (λ e. cc)
-    by_op (Clflush a) is = over (Clflushes (line_of f a)) is (λ e. cc)
-    by_op Sfence is = here is
-    by_op Mfence is = here is
-    by_op (IsPersist r) is = over Asserts is (λ e. cc)
-    by_op (IsOrderedBefore r q) is = over Asserts is (λ e. cc)
 
 -- no store yet
 pub savers-start : (T : Recording) (n : ℕ) (savers : List ℕ) → n ≡ past_of T → savers ≡ replicate n 0 → AreSavers T 0 savers

@@ -1,28 +1,12 @@
 -- How it is found what a crash keeps without a store.
-use Rattle.std.specs.Prelude.{◌≡◌, ℕ, zero, suc, ◌<◌, ◌≤◌, ◌⊎◌, ◌==◌, ◌&&◌, if◌then◌else◌, nat_lt, List, length, Option, None, Some, slice_get, slice_index, slice_set, unwrap_or}
-use Rattle.pmt_model.specs.declared.event.Event.{Event}
+use Rattle.std.specs.Prelude.{◌≡◌, ℕ, zero, suc, ◌<◌, ◌≤◌, ◌⊎◌, if◌then◌else◌, nat_lt, List, length, Option, None, Some, slice_get, slice_set, unwrap_or}
 use Rattle.pmt_model.specs.declared.event.Op.{Op}
 use Rattle.pmt_model.specs.declared.event.Op.TheVariants.{Store, Clwb, ClflushOpt, Clflush, Sfence, Mfence, IsPersist, IsOrderedBefore}
-use Rattle.pmt_model.specs.Traces.{Recording, event}
-use Rattle.pmt_explain.specs.Following.{IsFenceAfter, IsFirst, past_of}
-use Rattle.pmt_causes.specs.Late.{is_fence}
-use Rattle.pmt_fates.specs.declared.own_fences.NextFences.{NextFences}
+use Rattle.pmt_model.specs.Traces.{Recording}
+use Rattle.pmt_explain.specs.Following.{past_of}
 use Rattle.pmt_fates.specs.declared.saved_before.SavedBefore.{SavedBefore}
 use Rattle.pmt_fates.specs.declared.saved_before.Savings.{Savings}
 use Rattle.pmt_fates.specs.Saved.{IsSavedAt}
-
--- The next fence of thread t.
-abbrev pub fence_of : NextFences → ℕ → ℕ
-fence_of fences t = slice_index fences.numbers t
-
--- The next fence of thread t, once the op with this number by thread u is met.
-abbrev pub fence_by : Op → ℕ → ℕ → ℕ → ℕ → ℕ
-fence_by o u number t old = if is_fence o && u == t then number else old
-
--- Of each event of the trace the next fence of its thread; one more than the last number where there is none.
-pub record AreOwnFences (T : Recording) (fences : List ℕ) : Type 0 where
-  pub size : length fences ≡ length T.events
-  pub each : (n p : ℕ) (e : Event) → slice_get fences n ≡ Some p → event T (suc n) ≡ Some e → IsFirst (IsFenceAfter T e.thread (suc n)) (past_of T) p
 
 -- The last of the first n events that is a store and safe from place q on is x, or x is 0 and there is none.
 abbrev pub IsSaver : Recording → ℕ → ℕ → ℕ → Type 0

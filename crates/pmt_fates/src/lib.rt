@@ -10,7 +10,6 @@ mod fate;
 mod fences;
 mod figures;
 mod marking;
-mod own_fences;
 mod paths;
 pub mod place_row;
 pub mod places;
