@@ -17,16 +17,16 @@ use Rattle.pmt_causes.specs.declared.grouping.Keyed.{Keyed}
 use Rattle.pmt_causes.specs.Counts.{AreCounted}
 use Rattle.pmt_causes.specs.Details.{AreCountsBy, AreInsideBy, event_by, maker_at, maker_by, role_next, several}
 use Rattle.pmt_causes.specs.Fencing.{AreNextFences}
-use Rattle.pmt_causes.specs.Flushing.{AreNextFlushes, TellsNextFlush}
+use Rattle.pmt_dropping.specs.Upcoming.{AreNextFlushes, TellsNextFlush}
 use Rattle.pmt_causes.specs.Groups.{AreGrouped}
 use Rattle.pmt_causes.specs.Inside.{AreCountsOf, AreInside, TellsNext}
 use Rattle.pmt_causes.specs.Losing.{AreLosing, IsLosing, number_in}
 use Rattle.pmt_causes.proofs.FencingLemmas.{fence-at}
-use Rattle.pmt_causes.proofs.FlushingLemmas.{next-at}
+use Rattle.pmt_dropping.proofs.UpcomingLemmas.{next-on}
 use Rattle.pmt_causes.proofs.MemberLemmas.{each-at, grouped-members}
 
 flush-tells : (T : Recording) (list : List ℕ) (x : ℕ) → AreNextFlushes T list → TellsNextFlush T x (number_in list x)
-flush-tells T list x are = λ l w is. next-at T list x l w 0 are is
+flush-tells T list x are = λ l on. next-on T list x l 0 are on
 
 next-tells : (F : Facts) (i : ℕ) (c : CauseKind) → AreNextFlushes F.trace.now F.flushes.now → AreNextFences F.trace.now F.fences.now →
     TellsNext F.trace.now c (number_in F.lost.now i) (event_by F (role_next c) i)

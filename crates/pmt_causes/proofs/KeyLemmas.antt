@@ -29,9 +29,10 @@ use Rattle.pmt_causes.specs.declared.failure_keys.AssertionKind.TheVariants.{Per
 use Rattle.pmt_causes.specs.declared.failure_keys.FailureKey.{FailureKey}
 use Rattle.pmt_causes.specs.declared.failing.Loss.{Loss}
 use Rattle.pmt_causes.specs.FailureKeys.{kind_of, cause_by, IsAssertion, OfPersist, OfOrdered, Fails, IsKeyed, AreKeyed}
-use Rattle.pmt_causes.specs.Flushing.{AreNextFlushes}
+use Rattle.pmt_dropping.specs.Upcoming.{AreNextFlushes, ByStore}
 use Rattle.pmt_causes.specs.Losing.{IsLoss, loss_by, with_keyed}
-use Rattle.pmt_causes.proofs.FlushingLemmas.{next-at, cause-kind}
+use Rattle.pmt_dropping.proofs.UpcomingLemmas.{next-on}
+use Rattle.pmt_causes.proofs.FlushingLemmas.{cause-kind}
 
 -- ---- What has a failure fails
 
@@ -78,7 +79,7 @@ lost-cause T n x full flushes within are lost =
     record {
       why = c.0;
       is_cause = record { line = lost.line; what = lost.what; is_store = lost.is_store; why = c.1 };
-      kind = cause-kind T lost.line n x (get_or flushes (x - 1) 0) c.0 within (next-at T flushes x lost.line lost.what 0 are lost.is_store) c.1;
+      kind = cause-kind T lost.line n x (get_or flushes (x - 1) 0) c.0 within (next-on T flushes x lost.line 0 are (ByStore lost.what lost.is_store)) c.1;
     }
 
 key-from : (T : Recording) (labels : List (Option ℕ)) (flushes : List ℕ) (i n : ℕ) (full : Option ℕ) (e : Event) (kind : AssertionKind) (A : Span) (f : Failure) → event T i ≡ Some e →

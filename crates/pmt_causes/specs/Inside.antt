@@ -10,7 +10,7 @@ use Rattle.pmt_causes.specs.declared.grouping.Group.{Group}
 use Rattle.pmt_causes.specs.Counts.{AreCounted}
 use Rattle.pmt_causes.specs.Details.{addr_at, maker_at, part_at, several}
 use Rattle.pmt_causes.specs.Fencing.{IsNextFence}
-use Rattle.pmt_causes.specs.Flushing.{TellsNextFlush}
+use Rattle.pmt_dropping.specs.Upcoming.{TellsNextFlush}
 use Rattle.pmt_causes.specs.Losing.{IsLosing}
 
 -- The first fence after the next flush of the line of store x, if there is such a flush.

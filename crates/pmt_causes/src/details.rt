@@ -6,9 +6,10 @@ ghost use Rattle.pmt_causes.specs.Counts.{AreCounted, keyed_by};
 ghost use Rattle.pmt_causes.specs.Details.{AreCountsBy, AreInsideBy, addr_at, event_by, labels_by, maker_at, maker_by, part_at as part_in, part_by, part_of as part_within, role_next, several as several_of};
 
 use crate::counting::{Counts, tally};
-use crate::failure_keys::{CauseKind, FailureKey, number_of};
+use crate::failure_keys::{CauseKind, FailureKey};
 use crate::grouping::{Group, Keyed};
 use crate::labels::label_of;
+use pmt_dropping::number_of;
 use pmt_model::{Format, Op, OutOfMemory, Range, Trace};
 use std::alloc::Global;
 

@@ -9,15 +9,15 @@ ghost use Rattle.pmt_explain.specs.Saving.{AreSafePlaces};
 ghost use Rattle.pmt_causes.specs.FailureKeys.{AreFailureGroups};
 ghost use Rattle.pmt_causes.specs.Inside.{AreInside};
 ghost use Rattle.pmt_causes.specs.Losing.{AreFailures, IsLoss, loss_by, with_keyed, with_lost};
-ghost use Rattle.pmt_causes.specs.Flushing.{AreNextFlushes};
+ghost use Rattle.pmt_dropping.specs.Upcoming.{AreNextFlushes};
 ghost use Rattle.pmt_causes.specs.Writers.{AreAllWriters};
 
 use crate::details::{CauseCounts, Facts, counts_inside};
 use crate::failure_keys::{AssertionKind, FailureKey, key_of};
 use crate::fencing::next_fences;
-use crate::flushing::next_flushes;
 use crate::grouping::{Group, Keyed, groups};
 use crate::limit::first;
+use pmt_dropping::next_flushes;
 use pmt_explain::{LastWriters, SafePlaces, ordered_failure, persist_failure};
 use pmt_model::{Op, OutOfMemory, Range, Trace};
 use pmt_reasons::Failure;

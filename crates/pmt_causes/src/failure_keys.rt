@@ -1,9 +1,10 @@
 //! What failed assertions of one group have in common.
 
-ghost use Rattle.std.specs.Prelude.{◌≡◌, ◌-◌, slice_index};
+ghost use Rattle.std.specs.Prelude.{◌≡◌};
 ghost use Rattle.pmt_causes.specs.FailureKeys.{cause_by, key_by, origin_of as origin_in};
 
 use crate::labels::label_of;
+use pmt_dropping::number_of;
 use pmt_reasons::Failure;
 
 /// Whence an event comes.
@@ -64,16 +65,6 @@ pub(crate) fn key_of(
         kind,
         cause: cause_kind(failure.place, store, flush),
         origin: origin_of(labels, number, thread),
-    }
-}
-
-// The number that the list of all events has of this one, or 0 of no event.
-pub(crate) fn number_of(list: &[u64], event: u64) -> u64
-    ensures { result ≡ slice_index list.now (event - 1) }
-{
-    match list.get(event.saturating_sub(1) as usize) {
-        Some(number) => *number,
-        None => 0,
     }
 }
 

@@ -10,7 +10,6 @@ pub mod dropping;
 pub mod failing;
 pub mod failure_keys;
 mod fencing;
-mod flushing;
 pub mod grouping;
 mod labels;
 pub mod late;

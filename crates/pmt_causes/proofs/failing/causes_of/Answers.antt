@@ -3,7 +3,7 @@ use Rattle.std.proofs.lemmas.Grind.{elements}
 use Rattle.pmt_causes.specs.declared.details.Facts.{Facts}
 use Rattle.pmt_causes.specs.declared.failure_keys.FailureKey.{FailureKey}
 use Rattle.pmt_causes.specs.declared.grouping.Group.{Group}
-use Rattle.pmt_causes.specs.Flushing.{AreNextFlushes}
+use Rattle.pmt_dropping.specs.Upcoming.{AreNextFlushes}
 use Rattle.pmt_causes.specs.Fencing.{AreNextFences}
 use Rattle.pmt_causes.specs.Groups.{AreGrouped}
 use Rattle.pmt_causes.specs.Losing.{AreLosing}
