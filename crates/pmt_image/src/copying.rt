@@ -19,7 +19,7 @@ use std::alloc::{AllocError, Global};
 use std::io;
 use std::io::{Read, Write};
 
-// The bytes of one read: all stores are looked at for each piece, so it is large.
+// The bytes of one read at most: all stores are looked at for each piece, so it is large.
 const PIECE_SIZE: usize = 16_777_216;
 
 /// What ended the copying.
@@ -67,7 +67,7 @@ impl From<AllocError> for ImageFault {
 }
 
 /// Writes the pool after the crash: the pool's bytes before the trace began, which the reader gives, each of them replaced by what the last
-/// persisted store to it wrote. It holds the persisted stores and one piece of 16 MiB, however large the pool is. The reader is read no
+/// persisted store to it wrote. It holds the persisted stores and one piece of at most 16 MiB, however large the pool is. The reader is read no
 /// further than the pool's size.
 ///
 /// A place past the last event counts as that of the last event.
@@ -94,7 +94,8 @@ pub fn write_image<R: Read, W: Write>(
         Ok(stores) => stores,
         Err(fault) => return Err(refusal(fault)),
     };
-    let mut buffer = vec![in alloc; 0; PIECE_SIZE]?;
+    let size = pool.size.clamp(1, PIECE_SIZE as u64) as usize;
+    let mut buffer = vec![in alloc; 0; size]?;
     let done = copy_pool(
         stores.as_slice(),
         pool,
@@ -149,7 +150,7 @@ fn copy_pool<R: Read, W: Write>(
     writer: &mut Counted<W>,
 ) -> Result<(), CopyFault>
     requires pool { pool.origin + pool.size < 2 ^ 63 }
-    requires room { length buffer.old ≡ 16777216 }
+    requires room { 0 < length buffer.old × length buffer.old ≤ 16777216 }
     requires reads { failure_count reader.old < 2 ^ 64 - 1 }
     requires writes { failure_count writer.old < 2 ^ 64 - 1 }
     ensures copied { Copies (written_by (reverse stores.now)) pool.origin pool.size (R.remaining (inner_device reader.old)) (R.remaining (inner_device reader.new)) (W.contents (inner_device writer.old)) (W.contents (inner_device writer.new)) result }
@@ -195,7 +196,7 @@ fn copy_piece<R: Read, W: Write>(
 ) -> Result<u64, CopyFault>
     requires at { at < 2 ^ 63 }
     requires some { 0 < most }
-    requires room { length buffer.old ≡ 16777216 }
+    requires room { 0 < length buffer.old × length buffer.old ≤ 16777216 }
     requires reads { failure_count reader.old < 2 ^ 64 - 1 }
     requires writes { failure_count writer.old < 2 ^ 64 - 1 }
     ensures copied { CopiesPiece (written_by (reverse stores.now)) at most (R.remaining (inner_device reader.old)) (R.remaining (inner_device reader.new)) (W.contents (inner_device writer.old)) (W.contents (inner_device writer.new)) result }

@@ -1,4 +1,4 @@
-use Rattle.std.proofs.Common.{◌≡◌, ◌-◌, ◌≤◌, ℕ, List, length, reverse}
+use Rattle.std.proofs.Common.{◌≡◌, ◌-◌, ◌<◌, ◌≤◌, ℕ, List, length, reverse}
 use Rattle.pmt_text.specs.Counting.{inner_device, failure_count}
 use Rattle.pmt_image.specs.Copying.{IsCopied}
 use Rattle.pmt_image.specs.Persisting.{written_by}
@@ -8,7 +8,7 @@ abbrev pub invariant-loop-done : goal.invariant-loop-done
 invariant-loop-done g l = record {
   copied : (bytes : List ℕ) × (length bytes ≡ l.done) × IsCopied (written_by (reverse l.stores)) l.pool.origin bytes l.done (g.R.Read.remaining (inner_device l.fn.reader)) (g.R.Read.remaining (inner_device l.reader)) (g.W.Write.contents (inner_device l.fn.writer)) (g.W.Write.contents (inner_device l.writer));
   within : l.done ≤ l.pool.size;
-  room : length l.buffer ≡ 16777216;
+  room : (0 < length l.buffer) × (length l.buffer ≤ 16777216);
   reads : failure_count l.reader ≡ failure_count l.fn.reader;
   writes : failure_count l.writer ≡ failure_count l.fn.writer;
 }
