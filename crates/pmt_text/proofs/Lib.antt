@@ -29,3 +29,4 @@ pub mod PlainLemmas
 pub mod WriteLemmas
 pub mod BoundLemmas
 pub mod InputLemmas
+pub mod WithinLemmas

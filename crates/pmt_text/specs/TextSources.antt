@@ -14,6 +14,7 @@ use Rattle.pmt_text.specs.Judging.{line_judged}
 use Rattle.pmt_text.specs.Coming.{Coming, text_lines, lines_coming, trace_coming, with_format, ends_with}
 use Rattle.pmt_text.specs.Sources.{HasFormat, Gives, Faults}
 use Rattle.pmt_text.specs.Lines.{Ahead, ahead, last_line}
+use Rattle.pmt_text.specs.Within.{HasReadIn}
 
 -- what comes from the bytes ahead: from the header on, or, where it was read, from the event after those that were given
 abbrev pub coming_of : Option Layout → ℕ → Ahead → Coming
@@ -69,6 +70,10 @@ module _ {R : Type 0} where
   -- the line of the event that it gave last
   abbrev pub text_lent : TextSource R → Option (List ℕ)
   text_lent s = last_line s.lines
+
+  -- what it has read of a device that gave these bytes at first
+  abbrev pub text_within : (R → Option (List ℕ)) → TextSource R → Option (List ℕ) → Type 0
+  text_within remaining s first = HasReadIn remaining first s.state s.lines
 
   pub text_few : (s : TextSource R) → text_room s ≤ event_limit
   text_few s = omega arith

@@ -183,13 +183,16 @@ impl<R> LineReader<R> {
 }
 
 impl<R: Read> LineReader<R> {
+    ghost use Rattle.std.specs.Prelude.{ℕ, List, Option};
     ghost use Rattle.pmt_text.specs.Lines.{unread, held, LineEndsAt, known_of, Refills, Looks, Finds};
+    ghost use Rattle.pmt_text.specs.Within.{HasRead, StaysWithin};
 
     // Reads one more piece. False at the end of the input.
     fn refill(&mut self) -> Result<bool, SourceError>
         requires counted { failure_count self.old.input < 2 ^ 64 - 1 }
         ensures same { self.new.front ≡ self.old.front }
         ensures piece { Refills (known_of R.remaining self.old) (known_of R.remaining self.new) (unread self.new.piece) self.old.room self.new.room result }
+        ensures within { (first : Option (List ℕ)) → HasRead R.remaining first self.old → StaysWithin R.remaining first result self.new }
         ensures failures { failure_count self.new.input ≡ failure_count self.old.input + read_faults result }
     {
         if self.room == 0 {
@@ -211,6 +214,7 @@ impl<R: Read> LineReader<R> {
         requires full { self.old.room ≡ 0 }
         ensures same { self.new.front ≡ self.old.front }
         ensures piece { Refills (known_of R.remaining self.old) (known_of R.remaining self.new) (unread self.new.piece) self.old.room self.new.room result }
+        ensures within { (first : Option (List ℕ)) → HasRead R.remaining first self.old → StaysWithin R.remaining first result self.new }
         ensures failures { failure_count self.new.input ≡ failure_count self.old.input + read_faults result }
     {
         match self.piece.refill(&mut self.input, 1) {
@@ -224,6 +228,7 @@ impl<R: Read> LineReader<R> {
     fn look(&mut self) -> Result<Found, SourceError>
         requires counted { failure_count self.old.input < 2 ^ 64 - 1 }
         ensures found { Looks R.remaining self.old result self.new }
+        ensures within { (first : Option (List ℕ)) → HasRead R.remaining first self.old → StaysWithin R.remaining first result self.new }
         ensures failures { failure_count self.new.input ≡ failure_count self.old.input + read_faults result }
     {
         let piece = self.piece.as_slice();
@@ -242,6 +247,7 @@ impl<R: Read> LineReader<R> {
         requires whole { len ≡ length (unread self.old.piece) }
         requires one_line { IsOneLine (unread self.old.piece) }
         ensures found { Looks R.remaining self.old result self.new }
+        ensures within { (first : Option (List ℕ)) → HasRead R.remaining first self.old → StaysWithin R.remaining first result self.new }
         ensures failures { failure_count self.new.input ≡ failure_count self.old.input + read_faults result }
     {
         self.keep(len)?;
@@ -256,6 +262,7 @@ impl<R: Read> LineReader<R> {
     fn join(&mut self, len: usize) -> Result<Found, SourceError>
         requires ends { LineEndsAt (unread self.old.piece) len }
         ensures found { Looks R.remaining self.old result self.new }
+        ensures within { (first : Option (List ℕ)) → HasRead R.remaining first self.old → StaysWithin R.remaining first result self.new }
         ensures failures { failure_count self.new.input ≡ failure_count self.old.input + read_faults result }
     {
         if self.front.is_empty() {
@@ -269,6 +276,7 @@ impl<R: Read> LineReader<R> {
     pub(crate) fn find_line(&mut self) -> Result<Found, SourceError>
         requires counted { failure_count self.old.input < 2 ^ 64 - 1 }
         ensures found { Finds R.remaining self.old result self.new }
+        ensures within { (first : Option (List ℕ)) → HasRead R.remaining first self.old → StaysWithin R.remaining first result self.new }
         ensures failures { failure_count self.new.input ≡ failure_count self.old.input + read_faults result }
     {
         loop {

@@ -41,6 +41,9 @@ pub trait EventSource {
     // How many reads failed, where that is counted.
     ghost failures: { Self → Option ℕ } = { λ _. None };
 
+    // That it has read no more of these bytes, which its reader gave at first, than it may, where it has a reader.
+    ghost within: { Self → Option (List ℕ) → Type 0 } = { λ _ _. Unit {0} };
+
     // The line that it lends of the event given last; None where it lends none.
     ghost lent: { Self → Option (List ℕ) } = { λ _. None };
 
@@ -57,6 +60,7 @@ pub trait EventSource {
         ensures first_line { IfErr result IsOfFirstLine }
         ensures given { given self.new ≡ given self.old }
         ensures room { room self.new ≡ room self.old }
+        ensures within { (first : Option (List ℕ)) → within self.old first → within self.new first }
         ensures failures { CountsReads (failures self.old) result (failures self.new) };
 
     /// The next event, or None at the end.
@@ -71,6 +75,7 @@ pub trait EventSource {
         ensures later_line { IfErr result (IsOfLaterLine (known_format self.old)) }
         ensures given { given self.new ≡ given_after (given self.old) result }
         ensures room { LeavesFewer (room self.old) result (room self.new) }
+        ensures within { (first : Option (List ℕ)) → within self.old first → within self.new first }
         ensures failures { CountsReads (failures self.old) result (failures self.new) }
         ensures lent { Lends result (lent self.new) };
 
@@ -88,6 +93,7 @@ pub trait EventSource {
         ensures room { OnOk result (room self.new + length trace.new.events ≤ room self.old + length trace.old.events) }
         ensures state { state self.new ≡ state self.old }
         ensures format { known_format self.new ≡ known_format self.old }
+        ensures within { (first : Option (List ℕ)) → within self.old first → within self.new first }
         ensures failures { failures self.new ≡ failures self.old }
         ensures refused { OnErr result (coming self.new ≡ coming self.old) }
         ensures refused_room { OnErr result (room self.new ≡ room self.old) }

@@ -1,11 +1,12 @@
 //! One event, or the header, from a reader of lines.
-ghost use Rattle.std.specs.Prelude.{◌≡◌, ◌≢◌, ◌+◌, ◌-◌, ◌^◌, ◌<◌, ◌≤◌, Some, None, IfOk, IfErr, OnSome};
+ghost use Rattle.std.specs.Prelude.{◌≡◌, ◌≢◌, ◌+◌, ◌-◌, ◌^◌, ◌<◌, ◌≤◌, ℕ, List, Option, Some, None, IfOk, IfErr, OnSome};
 ghost use Rattle.pmt_model.specs.Traces.{event_limit};
 ghost use Rattle.pmt_text.specs.Counting.{failure_count};
 ghost use Rattle.pmt_text.specs.Lines.{IsEventAt, IsLineAt, last_line};
 ghost use Rattle.pmt_text.specs.Sources.{TakesNext, IsGivenIn, IsOfFirstLine, IsOfLaterLine, Lends, given_after, read_faults};
 ghost use Rattle.pmt_text.specs.TextSources.{coming_from, TakesHeader};
 ghost use Rattle.pmt_text.specs.Coming.{fault_at};
+ghost use Rattle.pmt_text.specs.Within.{HasRead, StaysWithin};
 
 use crate::header::judge_header;
 use crate::kind::{SourceError, TextError, TextKind};
@@ -36,6 +37,7 @@ pub(crate) fn next_event<R: Read>(
     ensures below { IfOk result (λ o. OnSome o (given < event_limit)) }
     ensures later_line { IfErr result (IsOfLaterLine (Some format)) }
     ensures open { IfErr result (λ e. e ≢ SourceError.Failed) }
+    ensures within { (first : Option (List ℕ)) → HasRead R.remaining first lines.old → StaysWithin R.remaining first result lines.new }
     ensures failures { failure_count lines.new.input ≡ failure_count lines.old.input + read_faults result }
     ensures lent { Lends result (last_line lines.new) }
 {
@@ -70,6 +72,7 @@ fn take_event<R: Read>(
     ensures below { IfOk result (λ o. OnSome o (given < event_limit)) }
     ensures later_line { IfErr result (IsOfLaterLine (Some format)) }
     ensures open { IfErr result (λ e. e ≢ SourceError.Failed) }
+    ensures within { (first : Option (List ℕ)) → HasRead R.remaining first lines.old → StaysWithin R.remaining first result lines.new }
     ensures failures { failure_count lines.new.input ≡ failure_count lines.old.input + read_faults result }
     ensures lent { Lends result (last_line lines.new) }
 {
@@ -98,6 +101,7 @@ fn give_event<R: Read>(
     ensures below { IfOk result (λ o. OnSome o (given < event_limit)) }
     ensures later_line { IfErr result (IsOfLaterLine (Some format)) }
     ensures open { IfErr result (λ e. e ≢ SourceError.Failed) }
+    ensures within { (first : Option (List ℕ)) → HasRead R.remaining first lines.old → StaysWithin R.remaining first result lines.new }
     ensures failures { failure_count lines.new.input ≡ failure_count lines.old.input + read_faults result }
     ensures lent { Lends result (last_line lines.new) }
 {
@@ -114,6 +118,7 @@ pub(crate) fn read_header<R: Read>(lines: &mut LineReader<R>) -> Result<Format, 
     ensures taken { TakesHeader (coming_from R.remaining None 0 lines.old) result (λ f. coming_from R.remaining (Some f) 0 lines.new) }
     ensures first_line { IfErr result IsOfFirstLine }
     ensures open { IfErr result (λ e. e ≢ SourceError.Failed) }
+    ensures within { (first : Option (List ℕ)) → HasRead R.remaining first lines.old → StaysWithin R.remaining first result lines.new }
     ensures failures { failure_count lines.new.input ≡ failure_count lines.old.input + read_faults result }
 {
     match lines.find_line() {
@@ -130,6 +135,7 @@ fn take_header<R: Read>(lines: &mut LineReader<R>, len: usize) -> Result<Format,
     ensures taken { TakesHeader (coming_from R.remaining None 0 lines.old) result (λ f. coming_from R.remaining (Some f) 0 lines.new) }
     ensures first_line { IfErr result IsOfFirstLine }
     ensures open { IfErr result (λ e. e ≢ SourceError.Failed) }
+    ensures within { (first : Option (List ℕ)) → HasRead R.remaining first lines.old → StaysWithin R.remaining first result lines.new }
     ensures failures { failure_count lines.new.input ≡ failure_count lines.old.input + read_faults result }
 {
     let judged = judge_header(lines.line(len));

@@ -1,11 +1,12 @@
 //! The events of a reader's text, as a source.
-ghost use Rattle.std.specs.Prelude.{◌≡◌, ◌≢◌, ◌-◌, ◌^◌, ◌<◌, ◌≤◌, false, true, is_some, option_map, Some, IfErr};
+ghost use Rattle.std.specs.Prelude.{◌≡◌, ◌≢◌, ◌+◌, ◌-◌, ◌^◌, ◌<◌, ◌≤◌, ℕ, List, Option, false, true, is_some, option_map, Some, IfErr};
 ghost use Rattle.pmt_text.specs.Sources.{TakesNext, TellsNext, IsGivenIn, IsOfLaterLine, LeavesFewer, CountsReads, Lends, given_after};
 ghost use Rattle.pmt_model.specs.Traces.{event_limit};
 ghost use Rattle.pmt_text.specs.declared.source.SourceState.{SourceState};
 ghost use Rattle.pmt_text.specs.declared.source.SourceState.TheVariants as states;
 ghost use Rattle.pmt_text.specs.Counting.{failure_count, inner_device};
 ghost use Rattle.pmt_text.specs.Coming.{byte_limit, judged_within};
+ghost use Rattle.pmt_text.specs.ScriptInputs.{ReadsWithin};
 
 use crate::counted::Counted;
 use crate::kind::SourceError;
@@ -33,7 +34,7 @@ pub struct TextSource<R> {
 }
 
 impl<R: Read> TextSource<R> {
-    ghost use Rattle.pmt_text.specs.TextSources.{text_coming, text_state, text_input, text_format, text_given, text_room, text_failures, text_lent};
+    ghost use Rattle.pmt_text.specs.TextSources.{text_coming, text_state, text_input, text_format, text_given, text_room, text_failures, text_lent, text_within};
 
     /// The source of this reader's text.
     pub fn new(alloc: Global, input: Counted<R>) -> Self
@@ -41,6 +42,7 @@ impl<R: Read> TextSource<R> {
         ensures coming { text_coming R.remaining result ≡ option_map (judged_within byte_limit) (R.remaining (inner_device input)) }
         ensures state { text_state result ≡ states.Open }
         ensures input { text_input result ≡ input }
+        ensures within { text_within R.remaining result (R.remaining (inner_device input)) }
     {
         TextSource {
             lines: LineReader::new(alloc, input),
@@ -52,7 +54,8 @@ impl<R: Read> TextSource<R> {
 
     /// The reader, with the count of its failed reads. What was read and not given is dropped.
     pub fn into_input(self) -> Counted<R>
-        ensures { result ≡ text_input self }
+        ensures input { result ≡ text_input self }
+        ensures within { (first : Option (List ℕ)) → text_within R.remaining self first → ReadsWithin (byte_limit + 1) first (R.remaining (inner_device result)) }
     {
         let TextSource {
             lines,
@@ -75,6 +78,7 @@ impl<R: Read> TextSource<R> {
         ensures later_line { IfErr result (IsOfLaterLine (Some format)) }
         ensures given { text_given self.new ≡ given_after (text_given self.old) result }
         ensures room { LeavesFewer (text_room self.old) result (text_room self.new) }
+        ensures within { (first : Option (List ℕ)) → text_within R.remaining self.old first → text_within R.remaining self.new first }
         ensures failures { CountsReads (text_failures self.old) result (text_failures self.new) }
         ensures lent { Lends result (text_lent self.new) }
     {
@@ -96,7 +100,7 @@ impl<R: Read> TextSource<R> {
 }
 
 impl<R: Read> EventSource for TextSource<R> {
-    ghost use Rattle.pmt_text.specs.TextSources.{text_coming, text_state, text_format, text_given, text_room, text_failures, text_lent, text_few};
+    ghost use Rattle.pmt_text.specs.TextSources.{text_coming, text_state, text_format, text_given, text_room, text_failures, text_lent, text_within, text_few};
     ghost use Rattle.pmt_text.specs.SourceLaws.{text_listed, text_same_format, text_of_format};
 
     ghost coming = { text_coming R.remaining };
@@ -110,6 +114,8 @@ impl<R: Read> EventSource for TextSource<R> {
     ghost room = { text_room };
 
     ghost failures = { text_failures };
+
+    ghost within = { text_within R.remaining };
 
     ghost lent = { text_lent };
 

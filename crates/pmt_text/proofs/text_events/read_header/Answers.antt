@@ -1,4 +1,5 @@
 use Rattle.pmt_text.proofs.EventLemmas.{failed-header, cut-header}
+use Rattle.pmt_text.proofs.WithinLemmas.{read-within}
 use Rattle.pmt_text.proofs.text_events.read_header.Goals as goal
 
 pub returns-in-Ok-End-clause-taken : goal.returns-in-Ok-End-clause-taken
@@ -8,3 +9,6 @@ returns-in-Ok-End-clause-taken g c =
 
 pub returns-in-Err-clause-taken : goal.returns-in-Err-clause-taken
 returns-in-Err-clause-taken g c = failed-header g.R.Read.remaining c.args.lines.now c.find_line.new.self c.in-Err.e c.in-Err.ensures.found
+
+pub returns-in-Ok-End-clause-within : goal.returns-in-Ok-End-clause-within
+returns-in-Ok-End-clause-within g c = λ first read. read-within first _ _ (c.in-Ok-End.ensures.within first read)
