@@ -1,5 +1,5 @@
 //! Taking the events of a source.
-ghost use Rattle.std.specs.Prelude.{◌≡◌, ◌<◌, length, IfOk, IfErr, IfSome, OnErr, OnOk};
+ghost use Rattle.std.specs.Prelude.{◌≡◌, ◌<◌, ℕ, List, Option, length, IfOk, IfErr, IfSome, OnErr, OnOk};
 ghost use Rattle.pmt_model.specs.Pushing.{with_event};
 ghost use Rattle.pmt_model.specs.Traces.{event_limit, IsEventIn};
 ghost use Rattle.pmt_text.specs.Coming.{ComesWhole};
@@ -50,6 +50,7 @@ pub fn take_trace<S: EventSource>(alloc: Global, source: &mut S) -> Result<Trace
     ensures fault { IfErr (told_by result) (λ e. IfSome (S.coming source.old) (λ c. IsFaultOf c e)) }
     ensures told { TellsSplit (S.state source.old) result (S.state source.new) }
     ensures rest { let shown = shown_by S.coming S.state S.known_format S.failures S.room in RefusedLeaves event_limit (shown source.old) result (shown source.new) }
+    ensures within { (first : Option (List ℕ)) → S.within source.old first → S.within source.new first }
     ensures failures { CountsReads (S.failures source.old) (told_by result) (S.failures source.new) }
 {
     let trace = take_block(alloc, source, u64::MAX)?;
@@ -78,6 +79,7 @@ pub fn take_block<S: EventSource>(
     ensures fault { IfErr (told_by result) (λ e. IfSome (S.coming source.old) (λ c. IsFaultOf c e)) }
     ensures told { TellsRefusal (S.state source.old) result (S.state source.new) }
     ensures rest { let shown = shown_by S.coming S.state S.known_format S.failures S.room in RefusedLeaves most (shown source.old) result (shown source.new) }
+    ensures within { (first : Option (List ℕ)) → S.within source.old first → S.within source.new first }
     ensures failures { CountsReads (S.failures source.old) (told_by result) (S.failures source.new) }
 {
     let format = source.format()?;

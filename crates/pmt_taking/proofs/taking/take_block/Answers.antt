@@ -15,9 +15,12 @@ block-preserved g c =
     let fewer = rw c.in-Some.is at said.room in
     let within : length c.block.block.events < c.args.most = omega (arith, c.block-test.true, c.len.ensures.value) in
     let one : BlockSoFar c.args.most (shown c.args.source.now) (shown c.next.new.self) c.add.new.trace = rw c.in_ok-add-in-Some.ensures.added
-    (block-more c.args.most (shown c.args.source.now) (shown c.block.source) (shown c.next.new.self) c.block.block c.in-Some.event within c.block.invariant taken told said.kept counted fewer) in
+    (block-more c.args.most (shown c.args.source.now) (shown c.block.source) (shown c.next.new.self) c.block.block c.in-Some.event within c.block.invariant.block taken told said.kept counted fewer) in
     let ready = c.in_ok-take_ready-2.ensures in
-    block-ready c.args.most (shown c.args.source.now) (shown c.next.new.self) (shown c.take_ready-in-block.new.self) (source.lent c.take_ready-in-block.new.self) c.add.new.trace c.take_ready-in-block.new.trace one ready.taken ready.few ready.room ready.state ready.format ready.failures
+    record {
+      block = block-ready c.args.most (shown c.args.source.now) (shown c.next.new.self) (shown c.take_ready-in-block.new.self) (source.lent c.take_ready-in-block.new.self) c.add.new.trace c.take_ready-in-block.new.trace one ready.taken ready.few ready.room ready.state ready.format ready.failures;
+      within = λ first read. c.take_ready-in-block.ensures.within first (said.within first (c.block.invariant.within first read));
+    }
 
 pub returns-in-None-clause-block : goal.returns-in-None-clause-block
 returns-in-None-clause-block g c =
@@ -28,7 +31,7 @@ returns-in-None-clause-block g c =
     let told = rw c.in-None.is at said.told in
     let same = rw c.in-None.is at said.room in
     let fewer : length c.block.block.events < c.args.most = omega (arith, c.block-test.true, c.len.ensures.value) in
-    block-ended c.args.most (shown c.args.source.now) (shown c.block.source) (shown c.next.new.self) c.block.block fewer c.block.invariant taken told said.kept same
+    block-ended c.args.most (shown c.args.source.now) (shown c.block.source) (shown c.next.new.self) c.block.block fewer c.block.invariant.block taken told said.kept same
 
 pub returns-in_err-add-in-Some-clause-rest : goal.returns-in_err-add-in-Some-clause-rest
 returns-in_err-add-in-Some-clause-rest g c =
@@ -39,7 +42,7 @@ returns-in_err-add-in-Some-clause-rest g c =
     let fewer = rw c.in-Some.is at said.room in
     let within : length c.block.block.events < c.args.most = omega (arith, c.block-test.true, c.len.ensures.value) in
     let left : LeavesRest c.args.most (shown c.args.source.now) (shown c.next.new.self) =
-    event-leaves c.args.most (shown c.args.source.now) (shown c.block.source) (shown c.next.new.self) c.block.block c.in-Some.event within c.block.invariant taken fewer in
+    event-leaves c.args.most (shown c.args.source.now) (shown c.block.source) (shown c.next.new.self) c.block.block c.in-Some.event within c.block.invariant.block taken fewer in
     refused-leaves c.args.most (shown c.args.source.now) (shown c.next.new.self) c.from_residual-in_err-add-in-Some.result left
 
 pub returns-in_err-take_ready-2-clause-rest : goal.returns-in_err-take_ready-2-clause-rest
@@ -51,7 +54,7 @@ returns-in_err-take_ready-2-clause-rest g c =
     let fewer = rw c.in-Some.is at said.room in
     let within : length c.block.block.events < c.args.most = omega (arith, c.block-test.true, c.len.ensures.value) in
     let left : LeavesRest c.args.most (shown c.args.source.now) (shown c.next.new.self) =
-    event-leaves c.args.most (shown c.args.source.now) (shown c.block.source) (shown c.next.new.self) c.block.block c.in-Some.event within c.block.invariant taken fewer in
+    event-leaves c.args.most (shown c.args.source.now) (shown c.block.source) (shown c.next.new.self) c.block.block c.in-Some.event within c.block.invariant.block taken fewer in
     let refused = c.in_err-take_ready-2.ensures in
     refused-leaves c.args.most (shown c.args.source.now) (shown c.take_ready-in-block.new.self) c.from_residual-in_err-take_ready-2.result
     (still-leaves c.args.most (shown c.args.source.now) (shown c.next.new.self) (shown c.take_ready-in-block.new.self) left refused.refused refused.refused_room)
