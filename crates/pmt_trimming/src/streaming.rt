@@ -1,5 +1,5 @@
 //! The trimmer that writes as the events come.
-ghost use Rattle.std.specs.Prelude.{◌≡◌, ◌+◌, ◌-◌, ◌^◌, ◌<◌, ℕ, List, length};
+ghost use Rattle.std.specs.Prelude.{◌≡◌, ◌+◌, ◌-◌, ◌^◌, ◌<◌, ℕ, List, Option, length};
 ghost use Rattle.std.specs.Io.KnownBytes.{Keeps};
 ghost use Rattle.pmt_model.specs.Traces.{Recording};
 ghost use Rattle.pmt_text.specs.Counting.{failure_count, inner_device};
@@ -31,6 +31,7 @@ pub fn trim_stream<S: EventSource, W: Write>(
     requires { failure_count out.old < 2 ^ 64 - 1 }
     ensures streams { Streams (record { coming = S.coming source.old; before = S.given source.old; after = S.given source.new; format = S.known_format source.new }) (W.contents (inner_device out.old)) (W.contents (inner_device out.new)) result }
     ensures told { TellsStream (S.state source.old) result (S.state source.new) }
+    ensures within { (first : Option (List ℕ)) → S.within source.old first → S.within source.new first }
     ensures read_failures { CountsStream (S.failures source.old) result (S.failures source.new) }
     ensures write_failures { failure_count out.new ≡ failure_count out.old + stream_write_faults result }
 {

@@ -1,5 +1,5 @@
 //! The trimmer that gives the whole text.
-ghost use Rattle.std.specs.Prelude.{◌≡◌, ℕ, ◌+◌, ◌++◌, ◌∷◌, [], ◌<◌, ◌≤◌, Bool, List, length, map, Some, IfOk, IfErr, IfSome, OnOk, vec_capacity, vec_len};
+ghost use Rattle.std.specs.Prelude.{◌≡◌, ℕ, ◌+◌, ◌++◌, ◌∷◌, [], ◌<◌, ◌≤◌, Bool, List, Option, length, map, Some, IfOk, IfErr, IfSome, OnOk, vec_capacity, vec_len};
 ghost use Rattle.std.specs.List.{flat_map};
 ghost use Rattle.pmt_model.specs.Pushing.{empty, with_event, with_events};
 ghost use Rattle.pmt_model.specs.declared.event.Event.{Event};
@@ -35,6 +35,7 @@ pub fn trimmed_text<S: EventSource>(alloc: Global, source: &mut S) -> Result<Vec
     ensures text { IfOk result (λ text. IsTextOfWhole (S.coming source.old) text.items) }
     ensures fault { IfErr (told_by result) (λ e. IfSome (S.coming source.old) (λ c. IsFaultOf c e)) }
     ensures told { TellsTaken (S.state source.old) result (S.state source.new) }
+    ensures within { (first : Option (List ℕ)) → S.within source.old first → S.within source.new first }
     ensures failures { CountsReads (S.failures source.old) (told_by result) (S.failures source.new) }
 {
     let format = source.format()?;

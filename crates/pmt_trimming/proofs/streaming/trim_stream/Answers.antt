@@ -12,35 +12,35 @@ use Rattle.pmt_trimming.proofs.streaming.trim_stream.Goals as goal
 pub returns-in_default-take-clause-streams : goal.returns-in_default-take-clause-streams
 returns-in_default-take-clause-streams g c =
     let more = rw c.in-Ok-Some.field-0-is at c.in-Ok-Some.ensures.given in
-    memory-streams c.take.invariant _ _ more _ _ _ _ c.close.ensures.kept c.close.ensures.told
+    memory-streams c.take.invariant.flow _ _ more _ _ _ _ c.close.ensures.kept c.close.ensures.told
 
 pub returns-in-Err-next-clause-streams : goal.returns-in-Err-next-clause-streams
 returns-in-Err-next-clause-streams g c =
     let said = c.in-Err-next.ensures in
-    source-streams c.take.invariant _ _ said.given said.kept _ _ _ c.in-Err-next.fault _ _ said.taken said.later_line said.told c.close-in-Err-next.ensures.kept c.close-in-Err-next.ensures.told
+    source-streams c.take.invariant.flow _ _ said.given said.kept _ _ _ c.in-Err-next.fault _ _ said.taken said.later_line said.told c.close-in-Err-next.ensures.kept c.close-in-Err-next.ensures.told
 
 pub returns-in-Ok-None-clause-streams : goal.returns-in-Ok-None-clause-streams
 returns-in-Ok-None-clause-streams g c =
-    let f = c.take.invariant in
+    let f = c.take.invariant.flow in
     let taken = rw c.in-Ok-None.field-0-is at c.in-Ok-None.ensures.taken in
     let same = rw c.in-Ok-None.field-0-is at c.in-Ok-None.ensures.given in
     rest-streams f _ _ same _ _ taken.0 (c.write_rest.ensures.rest f.trace f.text f.stream)
 
 pub returns-in-Ok-None-clause-told : goal.returns-in-Ok-None-clause-told
 returns-in-Ok-None-clause-told g c =
-    let f = c.take.invariant in
+    let f = c.take.invariant.flow in
     let told = rw c.in-Ok-None.field-0-is at c.in-Ok-None.ensures.told in
     rest-told f _ _ _ told (c.write_rest.ensures.rest f.trace f.text f.stream)
 
 pub returns-in-Ok-None-clause-read_failures : goal.returns-in-Ok-None-clause-read_failures
 returns-in-Ok-None-clause-read_failures g c =
-    let f = c.take.invariant in
+    let f = c.take.invariant.flow in
     let counted = rw c.in-Ok-None.field-0-is at c.in-Ok-None.ensures.failures in
     rest-counts f _ _ _ counted (c.write_rest.ensures.rest f.trace f.text f.stream)
 
 pub write_piece-requires-in-Ok-Some-clause-fits : goal.write_piece-requires-in-Ok-Some-clause-fits
 write_piece-requires-in-Ok-Some-clause-fits g c =
-    let f = c.take.invariant in
+    let f = c.take.invariant.flow in
     let said = c.in-Ok-Some.ensures in
     let fewer = rw c.in-Ok-Some.field-0-is at said.room in
     let given = rw c.in-Ok-Some.field-0-is at said.in_format in
@@ -50,7 +50,7 @@ pub take-preserved : goal.take-preserved
 take-preserved g c =
     let source = g.S.EventSource in
     let shown = shown_by source.coming source.state source.known_format source.failures source.room in
-    let f = c.take.invariant in
+    let f = c.take.invariant.flow in
     let said = c.in-Ok-Some.ensures in
     let fewer = rw c.in-Ok-Some.field-0-is at said.room in
     let given = rw c.in-Ok-Some.field-0-is at said.in_format in
@@ -59,13 +59,17 @@ take-preserved g c =
     let counted = rw c.in-Ok-Some.field-0-is at said.failures in
     let more = rw c.in-Ok-Some.field-0-is at said.given in
     let came = c.in-Ok-take.ensures in
-    flow-more f _ _ (event-in f _ _ said.kept given) fewer c.take-in-Ok-Some.new.self _ (came.out f.trace f.text f.stream.stream) c.text-in-Ok-Some.ensures _ more _ _ _ _ _ _ _
-    (so_far-more _ _ (shown c.next.new.self) f.trace c.in-Ok-Some.event f.source taken told said.kept counted fewer) (came.stream f.trace f.text f.stream.stream)
-    c.in-Ok-write_piece-2.ensures.written c.in-Ok-write_piece-2.ensures.failures
+    record {
+      flow =
+          flow-more f _ _ (event-in f _ _ said.kept given) fewer c.take-in-Ok-Some.new.self _ (came.out f.trace f.text f.stream.stream) c.text-in-Ok-Some.ensures _ more _ _ _ _ _ _ _
+          (so_far-more _ _ (shown c.next.new.self) f.trace c.in-Ok-Some.event f.source taken told said.kept counted fewer) (came.stream f.trace f.text f.stream.stream)
+          c.in-Ok-write_piece-2.ensures.written c.in-Ok-write_piece-2.ensures.failures;
+      within = λ bytes read. said.within bytes (c.take.invariant.within bytes read);
+    }
 
 pub returns-in-Err-write_piece-2-clause-streams : goal.returns-in-Err-write_piece-2-clause-streams
 returns-in-Err-write_piece-2-clause-streams g c =
-    let f = c.take.invariant in
+    let f = c.take.invariant.flow in
     let said = c.in-Ok-Some.ensures in
     let fewer = rw c.in-Ok-Some.field-0-is at said.room in
     let given = rw c.in-Ok-Some.field-0-is at said.in_format in
@@ -89,13 +93,16 @@ take-init g c =
     let writes = c.in-Ok-write_piece.ensures.written in
     let size = ap length c.text.ensures in
     record {
-      trace = empty c.in-Ok.format;
-      text = c.in-Ok-new.stream.queue.text;
-      source = so_far-none first (shown c.format.new.self) c.in-Ok.format said.taken said.told said.known said.failures (g.met.S.EventSource.few c.format.new.self);
-      given = (let none = c.in-Ok.ensures.given in omega (arith, none));
-      stream = record { trace = search rules; stream = c.in-Ok-new.ensures.stream; out = c.in-Ok-new.ensures.out; many = omega (arith, size, writes.1) };
-      out = subst (λ (bytes : List ℕ). Appends (g.W.Write.contents (inner_device c.args.out.now)) (g.W.Write.contents (inner_device c.write_piece.new.out)) bytes) c.text.ensures writes.0;
-      unfailed = search rules;
+      flow = record {
+        trace = empty c.in-Ok.format;
+        text = c.in-Ok-new.stream.queue.text;
+        source = so_far-none first (shown c.format.new.self) c.in-Ok.format said.taken said.told said.known said.failures (g.met.S.EventSource.few c.format.new.self);
+        given = (let none = c.in-Ok.ensures.given in omega (arith, none));
+        stream = record { trace = search rules; stream = c.in-Ok-new.ensures.stream; out = c.in-Ok-new.ensures.out; many = omega (arith, size, writes.1) };
+        out = subst (λ (bytes : List ℕ). Appends (g.W.Write.contents (inner_device c.args.out.now)) (g.W.Write.contents (inner_device c.write_piece.new.out)) bytes) c.text.ensures writes.0;
+        unfailed = search rules;
+      };
+      within = said.within;
     }
 
 pub take-requires-clause-line : goal.take-requires-clause-line
@@ -105,14 +112,14 @@ take-requires-clause-line g c =
 
 pub take-requires-clause-room : goal.take-requires-clause-room
 take-requires-clause-room g c =
-    let f = c.take.invariant in
+    let f = c.take.invariant.flow in
     let fewer = rw c.in-Ok-Some.field-0-is at c.in-Ok-Some.ensures.room in
     let roomy = f.source.roomy in
     let all = f.stream.stream.pass.all in
     omega (arith, roomy, all, fewer)
 
 pub take-requires-clause-stream : goal.take-requires-clause-stream
-take-requires-clause-stream g c = let f = c.take.invariant in (f.trace, f.text, f.stream.stream)
+take-requires-clause-stream g c = let f = c.take.invariant.flow in (f.trace, f.text, f.stream.stream)
 
 pub format-requires : goal.format-requires
 format-requires g c = grind (arith, elements)

@@ -21,6 +21,7 @@ loop-block-init g c =
       so_far-none (shown c.args.source.now) (shown c.format.new.self) c.in_ok-format.format said.taken said.told said.known said.failures (g.met.S.EventSource.few c.format.new.self),
       c.in_ok-whole.ensures,
       c.in_ok-block.ensures,
+      said.within,
     )
 
 pub loop-block-preserved : goal.loop-block-preserved
@@ -40,6 +41,7 @@ loop-block-preserved g c =
       so_far-ready (shown c.args.source.now) (shown c.next.new.self) (shown c.take_ready.new.self) more c.loop-block.block c.take_ready.new.trace (source.lent c.take_ready.new.self) of.3 one ready.taken ready.room ready.state ready.format ready.failures,
       subst (λ (es : List Event). IsWholeOf (with_events more es) c.take_all.new.self) c.events.ensures.value (c.in_ok-take_all.ensures more (c.in_ok-take.ensures of.0 of.2)),
       c.in_ok-block-2.ensures ∙ ap (λ (f : Layout). empty f) (ap (λ (R : Recording). R.format) ready.taken.added ∙ ap (λ (R : Recording). R.format) of.3),
+      (λ first read. ready.within first (said.within first (of.4 first read))),
     )
 
 pub returns-clause-text : goal.returns-clause-text

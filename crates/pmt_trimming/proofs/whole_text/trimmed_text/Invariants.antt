@@ -1,4 +1,4 @@
-use Rattle.std.proofs.Common.{◌≡◌}
+use Rattle.std.proofs.Common.{◌≡◌, ℕ, List, Option}
 use Rattle.pmt_model.specs.Pushing.{empty}
 use Rattle.pmt_model.specs.Traces.{Recording}
 use Rattle.pmt_taking.specs.Blocks.{shown_by}
@@ -10,7 +10,7 @@ abbrev pub invariant-loop-block : goal.invariant-loop-block
 invariant-loop-block g l =
     let source = g.S.EventSource in
     let shown = shown_by source.coming source.state source.known_format source.failures source.room in
-    (T : Recording) × SoFar (shown l.fn.source) (shown l.source) T × IsWholeOf T l.whole × (l.block ≡ empty T.format)
+    (T : Recording) × SoFar (shown l.fn.source) (shown l.source) T × IsWholeOf T l.whole × (l.block ≡ empty T.format) × ((first : Option (List ℕ)) → source.within l.fn.source first → source.within l.source first)
 
 abbrev pub decreases-loop-block : goal.decreases-loop-block
 decreases-loop-block g l = g.S.EventSource.room l.source
