@@ -1,7 +1,9 @@
 //! The run that checks a trace, and what it tells of the analysis.
 ghost use Rattle.std.specs.Prelude.{◌≡◌, ◌+◌, ◌-◌, ◌^◌, ◌<◌, ◌||◌, true, not, length, IfOk};
 ghost use Rattle.std.specs.List.{list_any};
+ghost use Rattle.pmt_text.specs.Coming.{byte_limit};
 ghost use Rattle.pmt_text.specs.Counting.{failure_count, inner_device};
+ghost use Rattle.pmt_text.specs.ScriptInputs.{ReadsWithin};
 ghost use Rattle.pmt_tables.specs.Flags.{marked_from};
 ghost use Rattle.pmt_analysis.specs.Workers.{is_worker_count};
 ghost use Rattle.pmt_report.specs.Chunking.{WritesReport};
@@ -39,6 +41,7 @@ pub fn run_check<T: Threads + Sync, R: Read, W: Write>(
     ensures workers { tells_workers result.1 ≡ not (is_worker_count workers) }
     ensures unread { tells_workers result.1 ≡ true → result.0 ≡ reader }
     ensures told { TellsCheck (coming_from_reader (R.remaining (inner_device reader))) (W.contents (inner_device writer.old)) (W.contents (inner_device writer.new)) result.1 }
+    ensures within { ReadsWithin (byte_limit + 1) (R.remaining (inner_device reader)) (R.remaining (inner_device result.0)) }
     ensures read_failures { failure_count result.0 ≡ failure_count reader + run_read_faults result.1 }
     ensures write_failures { failure_count writer.new ≡ failure_count writer.old + write_faults result.1 }
 {

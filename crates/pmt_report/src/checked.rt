@@ -1,9 +1,10 @@
 //! What a check finds in the events of a source. They are taken block by block, and no block is kept.
-ghost use Rattle.std.specs.Prelude.{◌≡◌, ◌==◌, ◌+◌, ◌-◌, ◌^◌, ◌<◌, ◌≤◌, true, not, length, IfOk, IfErr, IfSome, OnOk};
+ghost use Rattle.std.specs.Prelude.{◌≡◌, ◌==◌, ◌+◌, ◌-◌, ◌^◌, ◌<◌, ◌≤◌, ℕ, List, Option, true, not, length, IfOk, IfErr, IfSome, OnOk};
 ghost use Rattle.pmt_model.specs.Pushing.{empty, with_events};
 ghost use Rattle.pmt_model.specs.Traces.{Recording, IsTrace};
-ghost use Rattle.pmt_text.specs.Coming.{ComesWhole};
+ghost use Rattle.pmt_text.specs.Coming.{ComesWhole, byte_limit};
 ghost use Rattle.pmt_text.specs.Counting.{failure_count, inner_device};
+ghost use Rattle.pmt_text.specs.ScriptInputs.{ReadsWithin};
 ghost use Rattle.pmt_text.specs.Sources.{CountsReads};
 ghost use Rattle.pmt_taking.specs.Blocks.{Shown, TakesBlock, shown_by};
 ghost use Rattle.pmt_taking.specs.Sourcing.{IsFaultOf, TellsRefusal, TellsTaken, told_by};
@@ -54,6 +55,7 @@ pub(crate) fn checked<R: Read>(
     ensures unread { tells_workers result.1 ≡ true → result.0 ≡ reader }
     ensures right { IfOk result.1 (IsCheckOf (coming_from_reader (R.remaining (inner_device reader)))) }
     ensures fault { IfErr result.1 (IsAnalysisFault (coming_from_reader (R.remaining (inner_device reader)))) }
+    ensures within { ReadsWithin (byte_limit + 1) (R.remaining (inner_device reader)) (R.remaining (inner_device result.0)) }
     ensures read_failures { failure_count result.0 ≡ failure_count reader + run_read_faults result.1 }
 {
     if !are_allowed(workers) {
@@ -74,6 +76,7 @@ fn checked_from<S: EventSource>(alloc: Global, source: &mut S) -> Result<Checked
     ensures right { IfOk result (IsCheckOf (S.coming source.old)) }
     ensures fault { IfErr (told_by result) (λ e. IfSome (S.coming source.old) (λ c. IsFaultOf c e)) }
     ensures told { TellsTaken (S.state source.old) result (S.state source.new) }
+    ensures within { (first : Option (List ℕ)) → S.within source.old first → S.within source.new first }
     ensures failures { CountsReads (S.failures source.old) (told_by result) (S.failures source.new) }
 {
     let taken = taken_whole(alloc, source)?;
@@ -86,6 +89,7 @@ fn taken_whole<S: EventSource>(alloc: Global, source: &mut S) -> Result<Taken, T
     ensures taken { IfOk result (λ t. (T : Recording) × HasTaken T t × ComesWhole (S.coming source.old) T) }
     ensures fault { IfErr (told_by result) (λ e. IfSome (S.coming source.old) (λ c. IsFaultOf c e)) }
     ensures told { TellsTaken (S.state source.old) result (S.state source.new) }
+    ensures within { (first : Option (List ℕ)) → S.within source.old first → S.within source.new first }
     ensures failures { CountsReads (S.failures source.old) (told_by result) (S.failures source.new) }
 {
     let block = take_block(alloc, source, BLOCK)?;
@@ -115,6 +119,7 @@ fn take_others<S: EventSource>(
     requires first { let shown = shown_by S.coming S.state S.known_format S.failures S.room in (before : Shown) × IsTakenSoFar before (shown source.old) first (length first.events == most) }
     ensures taken { let shown = shown_by S.coming S.state S.known_format S.failures S.room in (before : Shown) → IsTakenSoFar before (shown source.old) first (length first.events == most) → IfOk result (λ n. (T : Recording) × HasSwept T sweeper.new × (n ≡ length T.events) × ComesWhole before.coming T) }
     ensures fault { let shown = shown_by S.coming S.state S.known_format S.failures S.room in (before : Shown) → IsTakenSoFar before (shown source.old) first (length first.events == most) → IfErr (told_by result) (λ e. IfSome before.coming (λ c. IsFaultOf c e)) }
+    ensures within { (first : Option (List ℕ)) → S.within source.old first → S.within source.new first }
     ensures told { let shown = shown_by S.coming S.state S.known_format S.failures S.room in (before : Shown) → IsTakenSoFar before (shown source.old) first (length first.events == most) → TellsTaken before.state result (S.state source.new) }
     ensures failures { let shown = shown_by S.coming S.state S.known_format S.failures S.room in (before : Shown) → IsTakenSoFar before (shown source.old) first (length first.events == most) → CountsReads before.failures (told_by result) (S.failures source.new) }
 {
@@ -153,6 +158,7 @@ fn sweep_and_take<S: EventSource>(
     ensures block { let shown = shown_by S.coming S.state S.known_format S.failures S.room in IfOk result.1 (TakesBlock most (shown source.old) (shown source.new)) }
     ensures fault { IfErr (told_by result.1) (λ e. IfSome (S.coming source.old) (λ c. IsFaultOf c e)) }
     ensures told { TellsRefusal (S.state source.old) result.1 (S.state source.new) }
+    ensures within { (first : Option (List ℕ)) → S.within source.old first → S.within source.new first }
     ensures failures { CountsReads (S.failures source.old) (told_by result.1) (S.failures source.new) }
 {
     let swept = sweeper.take(block.events());

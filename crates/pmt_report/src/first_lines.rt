@@ -1,5 +1,5 @@
 //! The lines of the first events of a source. No event is kept.
-ghost use Rattle.std.specs.Prelude.{◌≡◌, suc, ◌<◌, ◌≤◌, List, ◌∷◌, length, IfOk, IfErr, IfSome, OnOk};
+ghost use Rattle.std.specs.Prelude.{◌≡◌, suc, ◌<◌, ◌≤◌, ℕ, List, Option, ◌∷◌, length, IfOk, IfErr, IfSome, OnOk};
 ghost use Rattle.pmt_model.specs.Machine.{Act};
 ghost use Rattle.pmt_model.specs.Pushing.{empty, with_event};
 ghost use Rattle.pmt_model.specs.Traces.{Recording, IsEventIn, act, event_limit};
@@ -31,6 +31,7 @@ pub(crate) fn first_lines<S: EventSource>(
     ensures first { IfOk result (TakesLines most (S.coming source.old) (S.coming source.new) (S.state source.old) (S.state source.new)) }
     ensures fault { IfErr (told_by result) (λ e. IfSome (S.coming source.old) (λ c. IsFaultOf c e)) }
     ensures told { TellsRefusal (S.state source.old) result (S.state source.new) }
+    ensures within { (first : Option (List ℕ)) → S.within source.old first → S.within source.new first }
     ensures failures { CountsReads (S.failures source.old) (told_by result) (S.failures source.new) }
 {
     let format = source.format()?;

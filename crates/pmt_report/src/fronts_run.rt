@@ -1,6 +1,7 @@
 //! The run that writes the fronts of a trace at a place.
-ghost use Rattle.std.specs.Prelude.{◌≡◌, ◌+◌, ◌-◌, ◌^◌, ◌<◌, Option, IfOk, IfErr};
-ghost use Rattle.pmt_text.specs.Coming.{Coming};
+ghost use Rattle.std.specs.Prelude.{◌≡◌, ◌+◌, ◌-◌, ◌^◌, ◌<◌, ℕ, List, Option, IfOk, IfErr};
+ghost use Rattle.pmt_text.specs.Coming.{Coming, byte_limit};
+ghost use Rattle.pmt_text.specs.ScriptInputs.{ReadsWithin};
 ghost use Rattle.pmt_text.specs.declared.source.SourceState.{SourceState};
 ghost use Rattle.pmt_text.specs.Counting.{failure_count, inner_device};
 ghost use Rattle.pmt_report.specs.FrontsOf.{TakesLines};
@@ -30,6 +31,7 @@ pub fn run_fronts<R: Read, W: Write>(
     requires reads { failure_count reader < 2 ^ 64 - 1 }
     requires writes { failure_count writer.old < 2 ^ 64 - 1 }
     ensures runs { Runs (IsFrontsAt place) (IsFrontsFault place) (coming_from_reader (R.remaining (inner_device reader))) (W.contents (inner_device writer.old)) (W.contents (inner_device writer.new)) result.1 }
+    ensures within { ReadsWithin (byte_limit + 1) (R.remaining (inner_device reader)) (R.remaining (inner_device result.0)) }
     ensures read_failures { failure_count result.0 ≡ failure_count reader + run_read_faults result.1 }
     ensures write_failures { failure_count writer.new ≡ failure_count writer.old + write_faults result.1 }
 {
@@ -47,6 +49,7 @@ fn fronts_of<S: EventSource>(alloc: Global, place: u64, source: &mut S) -> Resul
     requires { S.state source.old ≡ SourceState.Open }
     ensures ok { IfOk result (λ text. IsComputed (IsFrontsAt place) (S.coming source.old) text.items) }
     ensures err { IfErr result (IsFrontsFault place (S.coming source.old)) }
+    ensures within { (first : Option (List ℕ)) → S.within source.old first → S.within source.new first }
     ensures failures { CountsRuns (S.failures source.old) result (S.failures source.new) }
 {
     match first_lines(alloc, source, place) {
@@ -70,6 +73,7 @@ fn fronts_past_first<S: EventSource>(
     requires { (first : Option Coming) × TakesLines place first (S.coming source.old) SourceState.Open (S.state source.old) lines.now }
     ensures ok { (first : Option Coming) → TakesLines place first (S.coming source.old) SourceState.Open (S.state source.old) lines.now → IfOk result (λ text. IsComputed (IsFrontsAt place) first text.items) }
     ensures err { (first : Option Coming) → TakesLines place first (S.coming source.old) SourceState.Open (S.state source.old) lines.now → IfErr result (IsFrontsFault place first) }
+    ensures within { (first : Option (List ℕ)) → S.within source.old first → S.within source.new first }
     ensures failures { CountsRuns (S.failures source.old) result (S.failures source.new) }
 {
     let events = lines.events;

@@ -21,6 +21,7 @@ take-init g c =
       c.len-events.ensures.is_trace,
       (λ before so_far. subst (IsTakenSoFar before now c.args.first) (sym c.is_full-more.ensures) so_far),
       omega (arith, c.len-events.ensures.value),
+      (λ bytes read. read),
     )
 
 pub sweep_and_take-swept-requires : goal.sweep_and_take-swept-requires
@@ -144,6 +145,7 @@ take-preserved g c =
           subst (IsTakenSoFar before now (with_events T next.events)) (sym c.is_full-more-in-take.ensures)
           (next-block c.args.most before mid now T next ((c.take.invariant.3 before known).on c.take-test.true) block counts)),
       omega (arith, c.take.invariant.4, c.len.ensures.value, length-append c.take.invariant.0.events c.take.block.events),
+      (λ bytes read. said.within bytes (c.take.invariant.5 bytes read)),
     )
 
 pub returns-clause-taken : goal.returns-clause-taken

@@ -18,6 +18,7 @@ first-init g c =
       so_far-none (shown c.args.source.now) (shown c.format.new.self) c.in_ok-format.format said.taken said.told said.known said.failures (g.met.S.EventSource.few c.format.new.self),
       c.new-lines.ensures,
       omega (arith, c.new-lines.ensures.counted),
+      said.within,
     )
 
 pub take-requires-clause-taking : goal.take-requires-clause-taking
@@ -50,6 +51,7 @@ first-preserved g c =
       so_far-more (shown c.args.source.now) (shown c.first.source) (shown c.next.new.self) T c.in-Some.event c.first.invariant.1 taken told said.kept counted fewer,
       lines,
       omega (arith, lines.counted, length-grown T c.in-Some.event, c.first.invariant.2.counted, c.first-test.true),
+      (λ bytes read. said.within bytes (c.first.invariant.4 bytes read)),
     )
 
 pub returns-clause-first : goal.returns-clause-first

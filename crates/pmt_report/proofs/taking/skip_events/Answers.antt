@@ -11,6 +11,7 @@ skip-preserved g c =
       still_open = open-some _ _ _ before.still_open given.told;
       events = (before.events.0 ++ c.in-Some.field-0 ∷ [], Gives-trans _ _ _ _ _ before.events.1 given.taken);
       count = count-ok _ _ _ _ before.count given.failures;
+      within = λ bytes read. given.within bytes (before.within bytes read);
     }
 
 pub returns-in-None-clause-taken : goal.returns-in-None-clause-taken
