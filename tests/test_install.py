@@ -96,12 +96,10 @@ class Installed(Checks):
     def test_cpp(self):
         need("pkg-config", "pkg-config")
         folder = self.new_folder()
-        block = re.search(r"^```cpp tree.cpp\n(.*?)^```", (TOP / "recorders/README.md").read_text(), re.M | re.S)
-        (folder / "tree.cpp").write_text(block[1])
         words = run(["pkg-config", "--cflags", "--libs", "pmtrace"], {"PKG_CONFIG_PATH": f"{self.prefix}/share/pkgconfig"}).out.split()
-        told = run(["g++", "-std=c++17", "tree.cpp", "-o", "tree", *words], cwd=folder)
+        told = run(["g++", "-std=c++17", TOP / "tests/recorders/programs/destructors.cpp", "-o", "program", *words], cwd=folder)
         self.expect("a program in C++ is built", told == (0, "", ""), told)
-        self.expect("it is recorded", run([folder / "tree"], cwd=folder).status == 0 and (folder / "tree.trace").exists(), told)
+        self.expect("it is recorded", run([folder / "program", "trace"], cwd=folder).status == 0 and (folder / "trace").exists(), told)
 
     def test_libpmem(self):
         """A program finds libpmem of the prefix by pkg-config, and its labels are source lines in the end."""

@@ -77,14 +77,6 @@ class RecorderTests(Recording):
         status, told = run_as_shown([HEADERS / "parts/join"])
         self.expect("pmtrace.h is made from its parts", status == 0 and told == text_of(HEADERS / "pmtrace.h"), told[:200])
 
-    def test_page_has_each_call_that_takes_a_label(self):
-        """The page has each function that takes a label, with the names of its arguments."""
-        declared = re.findall(r"(pmtrace_\w+_at)\(([^)]*)\)", text_of(HEADERS / "parts/functions.h"))
-        wanted = {name: [argument.split()[-1].strip("*") for argument in arguments.split(",")] for name, arguments in declared}
-        rows = re.findall(r"^\| (`pmtrace_\w+_at`[^|]*) \| `([^`]*)`", text_of(TOP / "recorders/README.md"), re.M)
-        found = {name: arguments.split(", ") for names, arguments in rows for name in re.findall(r"`(\w+)`", names)}
-        self.expect("the page has the functions that take a label", len(wanted) >= 20 and found == wanted, f"{found}\n{wanted}")
-
     def test_each_call_is_recorded(self):
         for name, compiler, flags in (("c11", AS_C, ["-std=c11"]), ("cpp17", AS_CPP, [])):
             program, trace = self.in_c("calls", compiler, f".{name}", flags), self.folder / f"calls.{name}.trace"
