@@ -1,5 +1,6 @@
 """What `check` writes with --labels, --limit and --quiet; without them its answer is fixed, and tests/test_answers.py compares it. And what it
 and `explain` say of a trace that lacks something, by the files beside it."""
+import json
 import subprocess
 
 from checks import Checks, add_tests
@@ -21,16 +22,16 @@ ENTRIES = (
     ("redundant-flush 7", " at a.c:7"),
 )
 UNSEEN = "Not all that the recorder saw is in the trace:\n"
-# What stands beside a trace: the file's ending and text, what is told first of it, whether what is never persisted is known to be lost, and
-# whether the verdicts are known.
+# What stands beside a trace: the file's ending and text, what is told first of it, whether what is never persisted is known to be lost,
+# whether the verdicts are known, and what the JSON says of it: kinds, counts and words.
 BESIDE = {
-    "cut": ("cut", "7 a full disk\n", "The trace was cut after event 7: a full disk\n", False, True),
-    "killed": ("cut", "0 the run was killed\n", "The trace was cut: the run was killed\n", False, True),
-    "no room": ("cut", "", "The trace was cut\n", False, True),
-    "bytes": ("missing", "others 2 flushes\nbytes 3 children\n", f"{UNSEEN}  others 2 flushes\n  bytes 3 children\nBytes of the pools may ", False, False),
-    "fences": ("missing", "fences 1 locks", f"{UNSEEN}  fences 1 locks\nFences may have come so: what passes is true, ", True, True),
-    "others": ("missing", "others 2 flushes\n", f"{UNSEEN}  others 2 flushes\n\n", True, True),
-    "nothing known": ("missing", "", f"{UNSEEN}Bytes of the pools may ", False, False),
+    "cut": ("cut", "7 a full disk\n", "The trace was cut after event 7: a full disk\n", False, True, [("cut", 7, "a full disk")]),
+    "killed": ("cut", "0 the run was killed\n", "The trace was cut: the run was killed\n", False, True, [("cut", None, "the run was killed")]),
+    "no room": ("cut", "", "The trace was cut\n", False, True, [("cut", None, "")]),
+    "bytes": ("missing", "others 2 flushes\nbytes 3 children\n", f"{UNSEEN}  others 2 flushes\n  bytes 3 children\nBytes of the pools may ", False, False, [("others", 2, "flushes"), ("bytes", 3, "children")]),
+    "fences": ("missing", "fences 1 locks", f"{UNSEEN}  fences 1 locks\nFences may have come so: what passes is true, ", True, True, [("fences", 1, "locks")]),
+    "others": ("missing", "others 2 flushes\n", f"{UNSEEN}  others 2 flushes\n\n", True, True, [("others", 2, "flushes")]),
+    "nothing known": ("missing", "", f"{UNSEEN}Bytes of the pools may ", False, False, [("bytes", None, "")]),
 }
 WRONG = ("bytes", "bytes 1", "bytes 1 ", "bytes 0 x", "bytes 01 x", "byte 1 x", " bytes 1 x", "bytes 1 x\x01", "bytes 1 x\r\n")
 LOST, CLAIM = "pmtrace 1\nstore 0 0x1000 01\n", "isPersist 0 0x1000 1\n"
@@ -80,7 +81,7 @@ class Check(Checks):
 
     def tells_first(self, row):
         """Of a store that is lost, and a claim that passes: what is not known of them. The report and status of check are fixed."""
-        ending, text, head, knows_losses, knows_verdicts = row
+        ending, text, head, knows_losses, knows_verdicts, lacks = row
         (self.folder / f"t.{ending}").write_text(text)
         status, out, told = self.told("t")
         self.expect("check", (status, out) == (1, report(labels=False)) and told.startswith(head) and told.endswith("\n\n"), told)
@@ -91,6 +92,9 @@ class Check(Checks):
             status, out, fault = self.told("t", command="explain")
             self.expect_equal(f"explain, {name}", (status, out.startswith(told), fault), (int(wanted), True, ""))
         self.expect_equal("the answer", "Nothing that is claimed can be lost: " in out, knows_verdicts)
+        status, out, _ = self.told("--json", "t", command="explain")
+        found = [(lack["kind"], lack["count"], lack["what"]) for lack in json.loads(out.splitlines()[0])["lacks"]]
+        self.expect_equal("the JSON", (status, found), (0, lacks))
 
     def test_wrong_lines_beside(self):
         for line in WRONG:

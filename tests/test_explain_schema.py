@@ -59,6 +59,7 @@ class Schema(Checks):
         cls.file.write_text(text)
         events, names = text.count("\n") - 1, cls.file.with_name("l")
         cls.file.with_name("t.cut").write_text(f"{events} it was cut\n")
+        cls.file.with_name("t.missing").write_text("bytes 2 children\nfences 1 locks\nothers 3 flushes\n")
         names.write_text("".join(f"{number} {ODD_LABELS[number % 4]}\n" for number in range(1, events + 1) if number % 5))
         found = {line: None for words in CHOICES for line in cls.told("--labels", names, *words)}
         failing = {event for entry in map(json.loads, found) if entry["kind"] == "cause" for event in entry["events"]}

@@ -248,7 +248,7 @@ FIRST_CUT, SECOND_CUT = "6 the run goes on in part 2\n", "6 the run goes on in p
 LABELS = "2 flush\n3 mark\n5 list.c:57 insert\n7 claim\n9 mark again\n12 none\n"
 NAMED = ["2 flush\n3 mark\n5 list.c:57 insert\n", "1 mark\n2 list.c:57 insert\n4 claim\n6 mark again\n", "1 mark\n2 mark again\n"]
 WORDS = ("--events", "6", "--overlap", "0")
-ENDINGS = (".labels", ".cut", ".ignore", ".base", ".origin", ".base2", ".origin2", ".base3", ".origin3")
+ENDINGS = (".labels", ".cut", ".missing", ".ignore", ".base", ".origin", ".base2", ".origin2", ".base3", ".origin3")
 
 
 def small_text():
@@ -328,6 +328,10 @@ class Parts(UnderFaults):
         self.expect("stat", told.startswith("This trace was cut after event 3: a full disk\n"), told)
         told = run_whole(self.program, "stat", str(folder / "full.0001.trace")).out.decode()
         self.expect("stat of another part", told.startswith("This trace was cut after event 6: the run goes on in part 2\n"), told)
+        cut.unlink()
+        (folder / "small.trace.missing").write_text("bytes 2 children\n")
+        answer = run_whole(self.program, "parts", *WORDS, "--out", str(folder / "lacks"), str(trace))
+        self.expect_equal("what it lacks besides: each part", standing(folder / "lacks"), right_files() | {f".{number:04}.trace.missing": "bytes 2 children\n" for number in (1, 2, 3)})
         cut.write_text("some\n")
         refused = run_whole(self.program, "parts", *WORDS, "--out", str(folder / "bad"), str(trace))
         self.expect("a bad line", refused.status == 3 and refused.faults.decode().startswith(f"{cut}:1: ") and not standing(folder / "bad"), faulty.short(refused))

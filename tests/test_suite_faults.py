@@ -42,6 +42,20 @@ class Faults(Checks):
         told = self.expect_line("the command that shows it", "show it     pmtrim explain", 1, "--fail-on", "cut")
         self.expect("it has no finding to tell of", "--only" not in told.out, told)
 
+    def test_missing(self):
+        """What the recorder saw and did not note: where bytes may be stored unseen no store is lost for good, and that is told as a cut is."""
+        put_run(self.runs / "part", ["store 0 0x40 01"], missing="others 2 flushes\nbytes 3 children\nbytes 1 call\n")
+        told = self.expect_line("bytes", "cut: part: bytes may have been stored or saved unseen: 3 children, 1 call", 0)
+        self.expect("no store is lost for good", "never_persisted" not in told.out and "flushes" not in told.out, told)
+        self.expect_line("and fails", "new: cut at (part)", 1, "--fail-on", "cut")
+        put_run(self.runs / "part", ["store 0 0x40 01"], missing="")
+        self.expect_line("without a line", "cut: part: bytes may have been stored or saved unseen: the recorder had no room to say what", 0)
+        put_run(self.runs / "part", ["store 0 0x40 01"], missing="fences 2 locks\n")
+        told = self.expect_line("fences", "aside: part: fences may have come unseen, so a failure may be a false alarm: 2 locks", 1)
+        self.expect("a store is lost for good", "never_persisted" in told.out and "cut: " not in told.out, told)
+        (self.runs / "part/trace.missing").unlink()
+        self.expect_line("nothing", "1 cause, 1 new", 1)
+
     def test_hints(self):
         """A hint is no failure, but where it is asked for."""
         put_run(self.runs / "open", ["store 0 0x0 01", "clwb 0 0x0", "store 0 0x40 01", "clwb 0 0x40", "sfence 0"], [f"x.c:{number} f" for number in range(1, 6)])

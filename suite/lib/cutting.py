@@ -48,5 +48,5 @@ def put_beside(run):
     if run.has(".ignore"):
         for part in parts:
             shutil.copyfile(run.beside(".ignore"), f"{part}.ignore")
-    for path in (run.trace, *map(run.beside, (".labels", ".cut", ".ignore"))):
+    for path in (run.trace, *map(run.beside, (".labels", ".cut", ".ignore", ".missing"))):
         pathlib.Path(path).unlink(missing_ok=True)

@@ -16,6 +16,8 @@ KIND = re.compile(r'"kind":"(\w+)"')
 OF_BYTES = re.compile(r',"lines":\[.*?\](?=,"lost":\{)|,"ranges":\[.*?\](?=,"whole_lines":)')
 UNFENCED = "unfenced: "  # before the labels of stores that are lost though their cache lines are flushed later
 LINE_SIZES = (32, 64, 128, 256)
+BYTES, FENCES = "bytes", "fences"  # the kinds of FILE.missing by which a verdict may change
+LACKED = {BYTES: "bytes may have been stored or saved unseen", FENCES: "fences may have come unseen, so a failure may be a false alarm"}
 WHY = {
     "unflushed": "no flush of the cache line follows the store by then",
     "unfenced": "the cache line is flushed after the store, but the thread that flushes makes no fence after it by then",
@@ -91,6 +93,7 @@ class RunReader:
         self.groups, self.failed = [], {}  # the failed assertions, and those that are told in full, by their numbers
         self.lost, self.rows = {}, []  # why cache lines lose stores; what became of the stores of places
         self.stores, self.tallies = {}, {}
+        self.lacks = []  # what the trace lacks besides, as a kind, a count and words
 
     @contextlib.contextmanager
     def readable(self):
@@ -118,6 +121,7 @@ class RunReader:
 
     def take_summary(self, value):
         self.summary = value
+        self.lacks = [[lack["kind"], lack["count"], lack["what"]] for lack in value["lacks"] if lack["kind"] != CUT]
 
     def take_cause(self, value):
         self.groups.append(Group(value["assertion"], value["label"], [event for event in value["events"] if event not in self.aside]))
@@ -218,8 +222,8 @@ class RunReader:
             self.add(kind, reason, labels, count, events[0][1]["event"], told)
 
     def add(self, kind, reason, labels, count, event, told, words=None):
-        """Adds a finding to its cause. A trace that was cut does not tell what is lost for good."""
-        if kind == NEVER_PERSISTED and self.cut:
+        """Adds a finding to its cause. A trace that was cut, or lacks bytes, does not tell what is lost for good."""
+        if kind == NEVER_PERSISTED and (self.cut or lacks_bytes(self.lacks)):
             return
         add_cause(self.causes, self.cause_of(kind, reason, labels, count, event, told, words))
 
@@ -236,13 +240,13 @@ class RunReader:
         self.add_places()
         self.add_tallies()
         if self.note:
-            kind, event = (CUT, self.cut[0]) if self.summary["events"] else (EMPTY, None)
+            kind, event = (CUT, self.cut and self.cut[0]) if self.summary["events"] else (EMPTY, None)
             self.add(kind, kind, [None], 1, event, [["why", self.note, None]], [])
         return count_of(self.causes, self.stores)
 
     @property
     def note(self):
-        return note_of(self.summary["events"], self.cut)
+        return note_of(self.summary["events"], self.cut, self.lacks)
 
 
 def count_of(causes, stores):
@@ -252,10 +256,20 @@ def count_of(causes, stores):
     return list(causes.values())
 
 
-def note_of(events, cut):
-    """Why a trace of so many events, which was cut so, is not all of what happened; None where it is."""
+def lacks_bytes(lacks):
+    """Whether bytes of the pools may have been stored, or made safe, unseen: the verdict of a claim on them is not known then."""
+    return any(kind == BYTES for kind, _, _ in lacks)
+
+
+def told_lacks(lacks, wanted):
+    """What of this kind a trace lacks, in words; None where that is nothing."""
+    told = [f"{count} {what}" if count else "the recorder had no room to say what" for kind, count, what in lacks if kind == wanted]
+    return f"{LACKED[wanted]}: {', '.join(told)}" if told else None
+
+
+def note_of(events, cut, lacks):
+    """Why a trace of so many events, which was cut so and lacks that, is not all of what happened; None where it is."""
     if not events:
         return cut[1] if cut else "the trace has no event"
-    if not cut:
-        return None
-    return f"the trace was cut after event {cut[0]}: {cut[1]}" if cut[0] is not None else f"the trace was cut: {cut[1]}"
+    end = cut and (f"the trace was cut after event {cut[0]}: {cut[1]}" if cut[0] is not None else f"the trace was cut: {cut[1]}")
+    return "; ".join(told for told in (end, told_lacks(lacks, BYTES)) if told) or None

@@ -14,7 +14,7 @@ from typing import Optional
 from apart import AT_ONCE, alike_in, most_asked
 from causes import FAILURE, NEVER_PERSISTED, read_cause
 from events import relabelled
-from explained import UNFENCED, RunReader
+from explained import FENCES, UNFENCED, RunReader, told_lacks
 from faults import FILE_FAULT, Fault
 from files import add_file, make_folder, read_if_there, read_text, write_whole
 from joining import ALIKE, Joined, PartReader, questions, told_aside
@@ -22,7 +22,7 @@ from labels import Places
 from parts import read_parts
 from runs import ENDINGS, EXPLAINED
 
-FORM = "pmtrim-suite explained 3"
+FORM = "pmtrim-suite explained 4"
 FLUSHED = re.compile(r"never-persisted \d+ flushed\n")
 
 
@@ -57,6 +57,11 @@ class Explained:
     aside: Optional[str]
     seconds: float  # how long that took
     was_known: bool
+
+
+def join_told(*texts):
+    """Those that say something, as one; None where none does."""
+    return "; ".join(text for text in texts if text) or None
 
 
 class Explainer:
@@ -103,7 +108,7 @@ class Explainer:
     def explain_anew(self, run, piece):
         reader = RunReader(piece, self.places(run), run.cut(), shown_by(piece))
         self.ask(reader, [], piece)
-        aside = told_aside({ALIKE: self.ask_more(reader, piece)})
+        aside = join_told(told_aside({ALIKE: self.ask_more(reader, piece)}), told_lacks(reader.lacks, FENCES))
         causes = reader.finish()
         return {"events": reader.summary["events"], "claims": reader.summary["assertions"], "note": reader.note, "aside": aside, "causes": [dataclasses.asdict(cause) for cause in causes]}
 

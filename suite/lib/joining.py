@@ -2,7 +2,7 @@
 import dataclasses
 
 from causes import CUT, DROPPED, EMPTY, FAILURE, NEVER_PERSISTED, OVERWRITTEN, UNWRITTEN, Cause, Example, add_cause, id_of, read_cause
-from explained import UNFENCED, RunReader, count_of, note_of
+from explained import UNFENCED, RunReader, count_of, lacks_bytes, note_of
 from parts import read_head
 
 ASIDE, ALIKE = "aside", "alike"
@@ -86,7 +86,7 @@ class PartReader(RunReader):
             for value in self.rows:
                 self.add_lost((value["label"] or "").removeprefix(UNFENCED), value)
         self.add_tallies()
-        return {"events": self.part.events, "claims": self.claims, "unknown": self.unknown, "findings": self.findings, "lines": self.lines, "stores": self.stores}
+        return {"events": self.part.events, "claims": self.claims, "lacks": self.lacks, "unknown": self.unknown, "findings": self.findings, "lines": self.lines, "stores": self.stores}
 
 
 class Joined:
@@ -96,6 +96,7 @@ class Joined:
         self.run = run
         self.cut = run.cut()
         self.show = show  # the command that shows the last part
+        self.lacks = said[-1]["lacks"]
         self.events, self.claims = (sum(each[word] for each in said) for word in ("events", "claims"))
         self.unknown = {word: sum(each["unknown"][word] for each in said) for word in UNKNOWN}
         self.stores, self.found, self.owners = {}, {}, {}
@@ -116,7 +117,7 @@ class Joined:
         """The causes of the run."""
         causes = {}
         for ident, (cause, count) in self.found.items():
-            if count and not (cause.kind == NEVER_PERSISTED and self.cut):
+            if count and not (cause.kind == NEVER_PERSISTED and (self.cut or lacks_bytes(self.lacks))):
                 cause.count, cause.runs = count, {self.run.name: count}
                 causes[ident] = cause
         if self.note:
@@ -124,14 +125,14 @@ class Joined:
         return count_of(causes, self.stores)
 
     def cause_of_note(self):
-        kind, event = (CUT, self.cut[0]) if self.events else (EMPTY, None)
+        kind, event = (CUT, self.cut and self.cut[0]) if self.events else (EMPTY, None)
         place = [f"({self.run.program})", None, None]
         example = Example(self.run.name, str(self.run.parts[-1]), self.events, event, [place], [["why", self.note, None]], self.show)
         return Cause(kind, kind, [place[0]], 1, None, {self.run.name: 1}, {self.run.name: example})
 
     @property
     def note(self):
-        return note_of(self.events, self.cut)
+        return note_of(self.events, self.cut, self.lacks)
 
     @property
     def aside(self):

@@ -12,7 +12,7 @@ from parts import series_of
 
 TRACE = "trace"
 RECORDING, EXPLAINED = ".recording", ".explained"  # folders of this program's own, below that of the runs
-ENDINGS = (".labels", ".ignore", ".cut", ".functions", ".part")  # of the files beside a trace that change what is told of it
+ENDINGS = (".labels", ".ignore", ".cut", ".missing", ".functions", ".part")  # of the files beside a trace that change what is told of it
 
 
 class Run(NamedTuple):

@@ -65,7 +65,7 @@ def wrongs(value, name="$"):
         yield from ((told, [wrong, *value[1:]]) for first in value[:1] for told, wrong in wrongs(first, f"{name}[0]"))
     elif isinstance(value, int):
         yield from ((f"{name} is {wrong}", wrong) for wrong in (-1, 2**64, 0.5))
-    elif isinstance(value, str) and not name.endswith((".label", ".path")):
+    elif isinstance(value, str) and not name.endswith((".label", ".path", ".what")):
         yield f"{name} is no such name", "?"
 
 

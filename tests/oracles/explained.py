@@ -312,6 +312,7 @@ class Explained:
         return {
             "kind": "summary",
             "schema": 3,
+            "lacks": [],
             "asked": self.asked_words(),
             "events": self.end,
             "threads": len({event[1] for event in trace.events}),

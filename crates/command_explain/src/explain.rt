@@ -6,13 +6,14 @@ use crate::colors::colored;
 use crate::page_of;
 use crate::sources::sources_of;
 use crate::taking::{Taken, taken_of};
+use crate::told::Beside;
 use command_inputs::{
-    Doing, Fault, Lacking, Opener, Watch, labels_of, lacking_of, no_failure, read_file,
+    Doing, Fault, Lacked, Lacking, Opener, Watch, labels_of, lacking_of, no_failure, read_file,
     read_ignored, write_named,
 };
 use command_requests::{Color, ExplainWords, Form};
 use pmt_asked::Labels;
-use pmt_explain_json::json_text;
+use pmt_explain_json::{Lack, json_text};
 use pmt_explain_run::explained;
 use pmt_explain_text::{Screen, source_places, text};
 use pmt_explanation::{Explanation, has_failed};
@@ -56,9 +57,11 @@ where
     watch.tell(Doing::Waiting);
     let taken = taken_of(alloc, files, words, input, watch)?;
     let lacking = lacking_of(alloc, files, words.file)?;
+    let lacks = lacks_of(alloc, lacking.all.as_slice())?;
     let known = Known {
         labels,
         lacking,
+        lacks,
         colors: is_colored(words, colors),
     };
     explain_taken(rt, alloc, files, words, &known, taken, out, watch)
@@ -86,10 +89,26 @@ fn add_ignored<O: Opener>(
 struct Known {
     // The labels of its events.
     labels: Labels,
-    // What it lacks.
+    // What it lacks, and that as JSON has it.
     lacking: Lacking,
+    lacks: Vec<Lack>,
     // Whether the text for people has colors.
     colors: bool,
+}
+
+// What the trace lacks, as JSON has it.
+fn lacks_of(alloc: Global, all: &[Lacked]) -> Result<Vec<Lack>, OutOfMemory> {
+    let mut lacks = Vec::with_capacity(alloc, all.len())?;
+    for lacked in all {
+        let kind = String::from_str(alloc, lacked.kind.as_str())?;
+        let what = String::from_str(alloc, lacked.what.as_str())?;
+        lacks.push(Lack {
+            count: lacked.count,
+            kind,
+            what,
+        })?;
+    }
+    Ok(lacks)
 }
 
 // Whether the text has colors, where a terminal would show them or not.
@@ -212,14 +231,18 @@ fn answer_of<O: Opener>(
                 Ok(text)
             }
         }
-        Form::Json => Ok(json_text(alloc, explanation, labels, &words.options.choice)?),
+        Form::Json => {
+            let choice = &words.options.choice;
+            Ok(json_text(alloc, explanation, labels, choice, known.lacks.as_slice())?)
+        }
         Form::Page => {
             let text = people_text(alloc, explanation, known, words, None)?;
+            let lacks = known.lacks.as_slice();
             page_of(
                 alloc,
                 files,
                 explanation,
-                labels,
+                Beside { labels, lacks },
                 words,
                 bytes,
                 text.as_slice(),

@@ -4,10 +4,9 @@ use crate::first_picture;
 use crate::labels::page_labels;
 use crate::page_sources::sources_of;
 use crate::safe_places::safe_places;
-use crate::told::told_within;
+use crate::told::{Beside, told_within};
 use command_inputs::{Fault, Opener, STANDARD_INPUT};
 use command_requests::{ExplainWords, VERSION};
-use pmt_asked::Labels;
 use pmt_explanation::Explanation;
 use pmt_model::OutOfMemory;
 use pmt_page::{
@@ -56,7 +55,7 @@ struct Asked<'a> {
     text: &'a [u8],
     picture: &'a str,
     digest: &'a [u8],
-    labels: &'a Labels,
+    beside: Beside<'a>,
     name: &'a str,
     source: Option<&'a str>,
     written: Option<&'a str>,
@@ -71,18 +70,18 @@ pub fn page_of<O: Opener>(
     alloc: Global,
     files: &O,
     explanation: &mut Explanation,
-    labels: &Labels,
+    beside: Beside<'_>,
     words: &ExplainWords<'_>,
     bytes: &[u8],
     text: &[u8],
 ) -> Result<Vec<u8>, Fault> {
-    let picture = first_picture(alloc, explanation, labels)?;
+    let picture = first_picture(alloc, explanation, beside.labels)?;
     let digest = digest_of(bytes);
     let asked = Asked {
         text: whole_lines(text),
         picture: picture.as_str(),
         digest: digest.as_slice(),
-        labels,
+        beside,
         name: words.file.unwrap_or(STANDARD_INPUT),
         source: words.source,
         written: words.out,
@@ -98,7 +97,7 @@ fn page_with_room<O: Opener>(
     words: &ExplainWords<'_>,
     asked: Asked<'_>,
 ) -> Result<Vec<u8>, Fault> {
-    let told = told_within(alloc, explanation, asked.labels, words, WIDE.told)?;
+    let told = told_within(alloc, explanation, asked.beside, words, WIDE.told)?;
     for room in [WIDE, FINDINGS] {
         let page = page_within(alloc, files, asked, explanation, told.as_slice(), room)?;
         if page.len() <= MOST_PAGE {
@@ -116,7 +115,7 @@ fn narrow_page<O: Opener>(
     words: &ExplainWords<'_>,
     asked: Asked<'_>,
 ) -> Result<Vec<u8>, Fault> {
-    let told = told_within(alloc, explanation, asked.labels, words, NARROW.told)?;
+    let told = told_within(alloc, explanation, asked.beside, words, NARROW.told)?;
     page_within(alloc, files, asked, explanation, told.as_slice(), NARROW)
 }
 
@@ -141,7 +140,7 @@ fn page_within<O: Opener>(
     room: Room,
 ) -> Result<Vec<u8>, Fault> {
     let events = explanation.analysis.trace().len() as u64;
-    let named = page_labels(alloc, asked.labels, events, room.labels)?;
+    let named = page_labels(alloc, asked.beside.labels, events, room.labels)?;
     let sources = sources(alloc, files, &asked, named.list.as_slice(), room)?;
     let blocks = Blocks {
         text: asked.text,

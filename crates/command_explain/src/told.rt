@@ -4,12 +4,21 @@ use crate::labels::size_on_page;
 use command_requests::ExplainWords;
 use pmt_asked::Labels;
 use pmt_explain::SafePlaces;
-use pmt_explain_json::json_text;
+use pmt_explain_json::{Lack, json_text};
 use pmt_explanation::{Explanation, first};
 use pmt_failures::{ShownFailure, shown_failures};
 use pmt_model::OutOfMemory;
 use pmt_page::explained_text;
 use std::alloc::Global;
+
+/// What stands beside the trace.
+#[derive(Clone, Copy)]
+pub struct Beside<'a> {
+    /// The labels of its events.
+    pub labels: &'a Labels,
+    /// What it lacks.
+    pub lacks: &'a [Lack],
+}
 
 // How many events the failed assertions of a page may take together: each takes a pass over those before it.
 const MOST_PASSED: u64 = 10_000_000;
@@ -26,24 +35,24 @@ const LEAST_FAILURES: usize = 10;
 pub fn told_within(
     alloc: Global,
     explanation: &mut Explanation,
-    labels: &Labels,
+    beside: Beside<'_>,
     words: &ExplainWords<'_>,
     most: usize,
 ) -> Result<Vec<u8>, OutOfMemory> {
     explanation.limit = words.page_limit.max(explanation.limit);
     explanation.failures = each_failure(alloc, explanation, words)?;
-    let text = text_of(alloc, explanation, labels, words)?;
+    let text = text_of(alloc, explanation, beside, words)?;
     if size_on_page(text.as_slice()) <= most {
         return Ok(text);
     }
-    with_fewer(alloc, explanation, labels, words, text, most)
+    with_fewer(alloc, explanation, beside, words, text, most)
 }
 
 // The text, which has no room, with fewer entries of each kind.
 fn with_fewer(
     alloc: Global,
     explanation: &mut Explanation,
-    labels: &Labels,
+    beside: Beside<'_>,
     words: &ExplainWords<'_>,
     mut text: Vec<u8>,
     most: usize,
@@ -52,7 +61,7 @@ fn with_fewer(
         if limit < explanation.limit {
             explanation.limit = limit;
             explanation.failures.truncate(limit);
-            text = text_of(alloc, explanation, labels, words)?;
+            text = text_of(alloc, explanation, beside, words)?;
             if size_on_page(text.as_slice()) <= most {
                 break;
             }
@@ -94,9 +103,15 @@ fn most_failures(explanation: &Explanation, words: &ExplainWords<'_>) -> usize {
 fn text_of(
     alloc: Global,
     explanation: &Explanation,
-    labels: &Labels,
+    beside: Beside<'_>,
     words: &ExplainWords<'_>,
 ) -> Result<Vec<u8>, OutOfMemory> {
-    let lines = json_text(alloc, explanation, labels, &words.options.choice)?;
+    let lines = json_text(
+        alloc,
+        explanation,
+        beside.labels,
+        &words.options.choice,
+        beside.lacks,
+    )?;
     explained_text(alloc, lines.as_slice())
 }

@@ -35,8 +35,11 @@ pub fn cut_of<O: Opener>(
     Ok(Some(cut))
 }
 
-// The bytes of the file with this name, if there is one.
-pub(crate) fn read_standing<O: Opener>(
+/// The bytes of the file with this name, if there is one.
+///
+/// # Errors
+/// The fault of the file; `OutOfMemory`.
+pub fn read_standing<O: Opener>(
     alloc: Global,
     files: &O,
     name: &str,

@@ -6,6 +6,7 @@ use crate::fault::Fault;
 use crate::opener::Opener;
 use crate::refused::{Wrong, refused_line, split_line};
 use pmt_asked::Cut;
+use pmt_model::OutOfMemory;
 use pmt_text::fields::split_field;
 use pmt_text::number::read_number;
 use std::alloc::{AllocError, Global};
@@ -14,9 +15,22 @@ use std::alloc::{AllocError, Global};
 const ALLOWED: &str =
     "a line is 'KIND COUNT WHAT', as 'bytes 3 child processes'; KIND is bytes, fences or others, and COUNT from 1 on";
 
+/// A thing that a trace lacks, by a line of a file beside it.
+#[derive(Drop)]
+pub struct Lacked {
+    /// How many; where the trace was cut, after which event. None where that is not known.
+    pub count: Option<u64>,
+    /// `cut`, or the kind that the line names.
+    pub kind: String,
+    /// What is missing, or why it was cut, in words.
+    pub what: String,
+}
+
 /// What a trace lacks of its run.
 #[derive(Drop)]
 pub struct Lacking {
+    /// All of it.
+    pub all: Vec<Lacked>,
     /// It in words, as lines of which the last one is empty; no byte where nothing is known to be lacking.
     pub told: String,
     /// Whether the verdicts of claims in the trace are those that they have in the run.
@@ -35,12 +49,14 @@ pub fn lacking_of<O: Opener>(
     file: Option<&str>,
 ) -> Result<Lacking, Fault> {
     let mut lacking = Lacking {
+        all: Vec::new(alloc),
         told: String::new(alloc),
         knows_verdicts: true,
         knows_losses: true,
     };
     if let Some(cut) = cut_of(alloc, files, file)? {
         push_cut(alloc, &mut lacking.told, &cut)?;
+        push_lacked(alloc, &mut lacking.all, "cut", cut.event, cut.why.as_str())?;
         lacking.knows_losses = false;
     }
     let Some(file) = file else {
@@ -51,6 +67,19 @@ pub fn lacking_of<O: Opener>(
         add_missing(alloc, name.as_str(), text.as_slice(), &mut lacking)?;
     }
     Ok(lacking)
+}
+
+fn push_lacked(
+    alloc: Global,
+    all: &mut Vec<Lacked>,
+    kind: &str,
+    count: Option<u64>,
+    what: &str,
+) -> Result<(), OutOfMemory> {
+    let kind = String::from_str(alloc, kind)?;
+    let what = String::from_str(alloc, what)?;
+    all.push(Lacked { count, kind, what })?;
+    Ok(())
 }
 
 // Adds where the trace was cut and why, as far as that is known.
@@ -79,6 +108,9 @@ fn add_missing(alloc: Global, name: &str, text: &[u8], lacking: &mut Lacking) ->
         .told
         .push_str("Not all that the recorder saw is in the trace:\n")?;
     let mut has_bytes = text.is_empty();
+    if has_bytes {
+        push_lacked(alloc, &mut lacking.all, "bytes", None, "")?;
+    }
     let mut has_fences = false;
     let mut rest = text;
     for number in 1..=u64::MAX {
@@ -89,15 +121,15 @@ fn add_missing(alloc: Global, name: &str, text: &[u8], lacking: &mut Lacking) ->
             Some((line, later)) => (line, later),
             None => (rest, b"".as_slice()),
         };
-        let Some(words) = judged(line) else {
+        let Some((kind, count, what)) = judged(line) else {
             let wrong = Wrong::new(alloc, "the line does not say what is missing", ALLOWED)?;
             return Err(refused_line(alloc, name, number, line, &wrong)?);
         };
-        has_bytes = has_bytes || words.starts_with("bytes ");
-        has_fences = has_fences || words.starts_with("fences ");
-        lacking.told.push_str("  ")?;
-        lacking.told.push_str(words)?;
-        lacking.told.push_str("\n")?;
+        has_bytes = has_bytes || kind == "bytes";
+        has_fences = has_fences || kind == "fences";
+        let told = format!(in alloc; "  {kind} {count} {what}\n")?;
+        lacking.told.push_str(told.as_str())?;
+        push_lacked(alloc, &mut lacking.all, kind, Some(count), what)?;
         rest = later;
     }
     if has_bytes {
@@ -119,19 +151,28 @@ that is never persisted here may be saved, so explain gives no status 1 for it.
 const FENCES: &str =
     "Fences may have come so: what passes is true, and what fails may be a false alarm.\n";
 
-// The line as words, if it says what is missing.
-fn judged(line: &[u8]) -> Option<&str> {
+// The kind, the count and the words of the line, if it says what is missing.
+fn judged(line: &[u8]) -> Option<(&str, u64, &str)> {
     let (kind, rest) = split_field(line);
     let (count, what) = split_field(rest?);
-    if !is_kind(kind) || what?.is_empty() || read_number(10, count)? == 0 {
-        return None;
-    }
-    match str::from_utf8(line) {
-        Ok(words) if !has_control(line) => Some(words),
+    let kind = kind_of(kind)?;
+    let count = read_number(10, count)?;
+    match str::from_utf8(what?) {
+        Ok(what) if count > 0 && !what.is_empty() && !has_control(what.as_bytes()) => {
+            Some((kind, count, what))
+        }
         _ => None,
     }
 }
 
-fn is_kind(field: &[u8]) -> bool {
-    field == b"bytes".as_slice() || field == b"fences".as_slice() || field == b"others".as_slice()
+fn kind_of(field: &[u8]) -> Option<&'static str> {
+    if field == b"bytes".as_slice() {
+        Some("bytes")
+    } else if field == b"fences".as_slice() {
+        Some("fences")
+    } else if field == b"others".as_slice() {
+        Some("others")
+    } else {
+        None
+    }
 }

@@ -29,7 +29,7 @@ mod writing;
 
 pub use crate::buffering::{counted_reader, recalled};
 pub use crate::bytes::has_control;
-pub use crate::cuts::cut_of;
+pub use crate::cuts::{cut_of, read_standing};
 pub use crate::fault::{Fault, no_failure};
 pub use crate::ignoring::{asked_place, read_ignored};
 pub use crate::input::{Input, STANDARD_INPUT};
@@ -37,7 +37,7 @@ pub use crate::inputs::{
     create_fault, labels_of, open_fault, opened, piece_fault, read_file, trace_of,
 };
 pub use crate::labels::label_of;
-pub use crate::lacking::{Lacking, lacking_of};
+pub use crate::lacking::{Lacked, Lacking, lacking_of};
 pub use crate::opener::{OpenError, Opener, SystemFiles};
 pub use crate::origin::read_origin;
 pub use crate::outputs::{Output, check_apart, remove_all, write_named, write_outputs};

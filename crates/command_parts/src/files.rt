@@ -90,7 +90,7 @@ pub(crate) fn write_part<O: Opener, R: Read + Drop>(
     let aside = set_aside(alloc, part)?;
     let name = part_name(alloc, words.out, turn.number)?;
     let name = name.as_str();
-    let mut outputs = Vec::with_capacity(alloc, 4)?;
+    let mut outputs = Vec::with_capacity(alloc, 5)?;
     add_output(
         alloc,
         &mut outputs,
@@ -106,6 +106,11 @@ pub(crate) fn write_part<O: Opener, R: Read + Drop>(
     }
     if let Some(text) = cut_text(alloc, part, turn, beside.cut.as_ref())? {
         add_output(alloc, &mut outputs, name, ".cut", text)?;
+    }
+    if let Some(missing) = &beside.missing {
+        let mut text = Vec::new(alloc);
+        text.extend_from_slice(missing.as_slice())?;
+        add_output(alloc, &mut outputs, name, ".missing", text)?;
     }
     check_outputs(alloc, words, files, outputs.as_slice())?;
     remove_beside(alloc, words, files, name, turn.number)?;

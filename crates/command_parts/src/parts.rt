@@ -7,7 +7,7 @@ ghost use Rattle.command_parts.specs.Counting.{IsCounted, IsLongText};
 use crate::files::Written;
 use crate::labels::PartLabels;
 use crate::writing::{Beside, PartFiles};
-use command_inputs::{Fault, Opener, cut_of, opened, write_answer};
+use command_inputs::{Fault, Opener, cut_of, opened, read_standing, write_answer};
 use command_requests::PartsWords;
 use pmt_parts::give_parts;
 use std::alloc::Global;
@@ -52,7 +52,25 @@ fn beside_whole<'a, O: Opener>(
 ) -> Result<Beside<'a, O::Reader>, Fault> {
     let labels = PartLabels::open(alloc, files, words.labels)?;
     let cut = cut_of(alloc, files, words.file)?;
-    Ok(Beside { labels, cut })
+    let missing = missing_of(alloc, files, words.file)?;
+    Ok(Beside {
+        labels,
+        cut,
+        missing,
+    })
+}
+
+// What the recorder saw and did not note, if the file FILE.missing stands beside that of the trace.
+fn missing_of<O: Opener>(
+    alloc: Global,
+    files: &O,
+    file: Option<&str>,
+) -> Result<Option<Vec<u8>>, Fault> {
+    let Some(file) = file else {
+        return Ok(None);
+    };
+    let name = format!(in alloc; "{file}.missing")?;
+    read_standing(alloc, files, name.as_str())
 }
 
 // Cuts the trace of the file, or of `input` where none is named.

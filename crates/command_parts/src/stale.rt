@@ -58,7 +58,13 @@ pub(crate) fn remove_beside<O: Opener>(
     name: &str,
     number: u64,
 ) -> Result<(), Fault> {
-    remove_named(alloc, words, files, name, &[".cut", ".labels", ".ignore"])?;
+    remove_named(
+        alloc,
+        words,
+        files,
+        name,
+        &[".cut", ".labels", ".ignore", ".missing"],
+    )?;
     if number == 1 {
         return Ok(());
     }

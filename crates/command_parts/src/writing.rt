@@ -20,6 +20,8 @@ pub(crate) struct Beside<'a, R> {
     pub(crate) labels: PartLabels<'a, R>,
     /// Where and why it was cut; none where it was not.
     pub(crate) cut: Option<Cut>,
+    /// The text of what it lacks besides; none where that is nothing.
+    pub(crate) missing: Option<Vec<u8>>,
 }
 
 /// The files of the parts.

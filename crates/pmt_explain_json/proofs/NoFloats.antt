@@ -43,7 +43,8 @@ use Rattle.pmt_explain_json.specs.Tables.{label_row_data, late_data, spot_label,
 use Rattle.pmt_asked.specs.declared.choosing.Choice.{Choice}
 use Rattle.pmt_asked.specs.declared.choosing.Kind.{Kind}
 use Rattle.pmt_asked.specs.declared.ignoring.ByteRange.{ByteRange}
-use Rattle.pmt_explain_json.specs.Lines.{summary_data, more_data, asked_data, byte_range_data}
+use Rattle.pmt_explain_json.specs.declared.lacking.Lack.{Lack}
+use Rattle.pmt_explain_json.specs.Lines.{summary_data, more_data, asked_data, byte_range_data, lack_data}
 use Rattle.pmt_asked.specs.Choosing.{kind_name}
 
 pub both : (a b : Bool) → a ≡ false → b ≡ false → (a || b) ≡ false
@@ -192,8 +193,13 @@ asked-float c =
     (both (has_float (or_null count_data c.thread)) _ (count-float c.thread)
     (both (has_float (or_null count_data c.to)) false (count-float c.to) refl)))))
 
-pub summary-float : (s : Summary) (limit : ℕ) (c : Choice) (more : Data) → has_float more ≡ false → has_float (summary_data s limit c more) ≡ false
-summary-float s limit c more none = both (has_float (asked_data c)) _ (asked-float c) (both (has_float more) false none refl)
+lack-float : (l : Lack) → has_float (lack_data l) ≡ false
+lack-float l = both (has_float (or_null count_data l.count)) false (count-float l.count) refl
+
+pub summary-float : (s : Summary) (limit : ℕ) (c : Choice) (more : Data) (lacks : List Lack) → has_float more ≡ false → has_float (summary_data s limit c more lacks) ≡ false
+summary-float s limit c more lacks none =
+    both (has_float (asked_data c)) _ (asked-float c)
+    (both (items_have_float (items_of (map lack_data lacks))) _ (array-float lack_data lack-float lacks) (both (has_float more) false none refl))
 
 pub more-float : (x : Explanation) → has_float (more_data x) ≡ false
 more-float x = refl

@@ -1,5 +1,5 @@
 -- All lines of JSON of an explanation, and the counts that they begin with.
-use Rattle.std.specs.Prelude.{◌≡◌, ℕ, ◌-◌, List, [], ◌∷◌, ◌++◌, length, take, codes, string_bytes}
+use Rattle.std.specs.Prelude.{◌≡◌, ℕ, ◌-◌, List, [], ◌∷◌, ◌++◌, length, take, map, codes, string_bytes}
 use Rattle.std.specs.List.{flat_map}
 use Rattle.serde_json.specs.Data.{Data, string}
 use Rattle.pmt_asked.specs.declared.choosing.Choice.{Choice}
@@ -10,7 +10,8 @@ use Rattle.pmt_explanation.specs.declared.summing.Summary.{Summary}
 use Rattle.pmt_asked.specs.Choosing.{kind_name}
 use Rattle.pmt_explanation.specs.Counting.{per_cent}
 use Rattle.pmt_explanation.specs.Summing.{IsSummary}
-use Rattle.pmt_explain_json.specs.Parts.{json_line, object_of, count_data, address_data, or_null}
+use Rattle.pmt_explain_json.specs.declared.lacking.Lack.{Lack}
+use Rattle.pmt_explain_json.specs.Parts.{json_line, object_of, array_of, count_data, address_data, or_null}
 use Rattle.pmt_explain_json.specs.Groups.{cause_lines}
 use Rattle.pmt_explain_json.specs.Tables.{table_lines}
 use Rattle.pmt_explain_json.specs.Entries.{failure_line, lost_line, dropped_line, overwritten_line, unwritten_line}
@@ -46,9 +47,13 @@ asked_data c = object_of
     ∷ (codes "to", or_null count_data c.to)
     ∷ [])
 
--- The counts, what is asked for, how many entries of each kind are shown at most, and how many are not shown.
-abbrev pub summary_data : Summary → ℕ → Choice → Data → Data
-summary_data s limit c more = object_of
+abbrev pub lack_data : Lack → Data
+lack_data l = object_of
+    ((codes "count", or_null count_data l.count) ∷ (codes "kind", string (string_bytes l.kind)) ∷ (codes "what", string (string_bytes l.what)) ∷ [])
+
+-- The counts, what is asked for, what the trace lacks, how many entries of each kind are shown at most, and how many are not shown.
+abbrev pub summary_data : Summary → ℕ → Choice → Data → List Lack → Data
+summary_data s limit c more lacks = object_of
     ((codes "asked", asked_data c)
     ∷ (codes "assertions", count_data s.assertions)
     ∷ (codes "cache_lines", count_data s.cache_lines)
@@ -63,6 +68,7 @@ summary_data s limit c more = object_of
     ∷ (codes "ignored_never_persisted", count_data s.ignored_never_persisted)
     ∷ (codes "ignored_overwritten", count_data s.ignored_overwritten)
     ∷ (codes "kind", string (codes "summary"))
+    ∷ (codes "lacks", array_of (map lack_data lacks))
     ∷ (codes "limit", count_data limit)
     ∷ (codes "more", more)
     ∷ (codes "never_persisted", count_data s.never_persisted)
@@ -71,13 +77,13 @@ summary_data s limit c more = object_of
     ∷ (codes "threads", count_data s.threads)
     ∷ [])
 
-abbrev pub summary_line : Explanation → Choice → Summary → List ℕ
-summary_line x c s = json_line (summary_data s x.limit c (more_data x))
+abbrev pub summary_line : Explanation → Choice → Summary → List Lack → List ℕ
+summary_line x c s lacks = json_line (summary_data s x.limit c (more_data x) lacks)
 
 -- The summary and the entries of each kind, an object a line: of each kind at most as many as the limit says, the first ones.
-unfoldable pub json_lines : Explanation → Choice → Summary → Labels → List ℕ
-json_lines x c s labels =
-    summary_line x c s
+unfoldable pub json_lines : Explanation → Choice → Summary → List Lack → Labels → List ℕ
+json_lines x c s lacks labels =
+    summary_line x c s lacks
     ++ cause_lines labels (take x.limit x.causes.items) x.counts.items (length (take x.limit x.causes.items))
     ++ flat_map (failure_line x.analysis.trace labels) x.failures.items
     ++ flat_map (lost_line x.analysis.trace labels) (take x.limit x.lost.items)
@@ -86,6 +92,6 @@ json_lines x c s labels =
     ++ flat_map (unwritten_line x.analysis.trace labels) (take x.limit x.unwritten.items)
     ++ table_lines x labels
 
--- The text is the explanation's, with its counts and with what was asked for.
-abbrev pub IsJsonText : Explanation → Labels → Choice → List ℕ → Type 0
-IsJsonText x labels c text = (s : Summary) × IsSummary x s × (text ≡ json_lines x c s labels)
+-- The text is the explanation's, with its counts, with what was asked for and with what the trace lacks.
+abbrev pub IsJsonText : Explanation → Labels → Choice → List Lack → List ℕ → Type 0
+IsJsonText x labels c lacks text = (s : Summary) × IsSummary x s × (text ≡ json_lines x c s lacks labels)

@@ -8,6 +8,7 @@ mod entries;
 mod failures;
 mod hints;
 mod inside;
+mod lacking;
 pub mod laws;
 mod lines;
 mod objects;
@@ -17,4 +18,5 @@ mod summary;
 mod tables;
 mod words;
 
+pub use crate::lacking::Lack;
 pub use crate::lines::json_text;

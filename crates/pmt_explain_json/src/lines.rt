@@ -11,6 +11,7 @@ ghost use Rattle.pmt_explain_json.specs.Lines.{IsJsonText, summary_line};
 use crate::causes::cause_group_value;
 use crate::entries::{dropped_value, lost_value, overwritten_value, unwritten_value};
 use crate::failures::failure_value;
+use crate::lacking::Lack;
 use crate::summary::{more_value, summary_value};
 use crate::tables::push_tables;
 use pmt_asked::{Choice, Labels};
@@ -23,8 +24,8 @@ use pmt_model::{OutOfMemory, Trace};
 use serde_json::Value;
 use std::alloc::Global;
 
-/// The explanation as JSON, an object a line: the summary, with what was asked for, and the entries of each kind, at most as many as
-/// the limit says.
+/// The explanation as JSON, an object a line: the summary, with what was asked for and what the trace lacks, and the entries of each
+/// kind, at most as many as the limit says.
 ///
 /// # Errors
 /// Where memory was refused.
@@ -33,8 +34,9 @@ pub fn json_text(
     explanation: &Explanation,
     labels: &Labels,
     choice: &Choice,
+    lacks: &[Lack],
 ) -> Result<Vec<u8>, OutOfMemory>
-    ensures { IfOk result (λ text. IsJsonText explanation.now labels.now choice.now text.items) }
+    ensures { IfOk result (λ text. IsJsonText explanation.now labels.now choice.now lacks.now text.items) }
 {
     let trace = explanation.analysis.trace();
     let limit = explanation.limit;
@@ -46,7 +48,7 @@ pub fn json_text(
     let unwritten = first(explanation.unwritten.as_slice(), limit);
     let counts = summary_of(explanation);
     let mut text = Vec::new(alloc);
-    push_summary(alloc, &mut text, explanation, choice, &counts)?;
+    push_summary(alloc, &mut text, explanation, choice, &counts, lacks)?;
     push_causes(
         alloc,
         &mut text,
@@ -85,11 +87,12 @@ fn push_summary(
     explanation: &Explanation,
     choice: &Choice,
     counts: &Summary,
+    lacks: &[Lack],
 ) -> Result<(), OutOfMemory>
-    ensures { OnOk result (text.new.items ≡ text.old.items ++ summary_line explanation.now choice.now counts.now) }
+    ensures { OnOk result (text.new.items ≡ text.old.items ++ summary_line explanation.now choice.now counts.now lacks.now) }
 {
     let more = more_value(alloc, explanation)?;
-    let value = summary_value(alloc, counts, explanation.limit, choice, more)?;
+    let value = summary_value(alloc, counts, explanation.limit, choice, more, lacks)?;
     push_value(alloc, text, &value)
 }
 

@@ -6,6 +6,7 @@ ghost use Rattle.pmt_explain_json.specs.Parts.{or_null, count_data};
 ghost use Rattle.pmt_asked.specs.Choosing.{kind_name};
 ghost use Rattle.pmt_explain_json.specs.Lines.{asked_data, byte_range_data, more_data, summary_data};
 
+use crate::lacking::{Lack, lacks_value};
 use crate::objects::{object_made, object_value};
 use crate::parts::count_or_null;
 use crate::words::address_text;
@@ -15,18 +16,20 @@ use pmt_model::OutOfMemory;
 use serde_json::Value;
 use std::alloc::Global;
 
-// The counts; `more` tells how many entries of each kind are not shown, and `limit` how many may be.
+// The counts; `more` tells how many entries of each kind are not shown, `limit` how many may be, and `lacks` what the trace lacks.
 pub(crate) fn summary_value(
     alloc: Global,
     summary: &Summary,
     limit: usize,
     choice: &Choice,
     more: Value,
+    lacks: &[Lack],
 ) -> Result<Value, OutOfMemory>
-    ensures { IfOk result (λ v. view v ≡ summary_data summary.now limit choice.now (view more)) }
+    ensures { IfOk result (λ v. view v ≡ summary_data summary.now limit choice.now (view more) lacks.now) }
 {
     let asked = asked_value(alloc, choice);
     let kind = Value::try_from_str(alloc, "summary");
+    let lacks = lacks_value(alloc, lacks);
     let of_fences = per_cent(summary.fences_dropped, summary.fences);
     let of_flushes = per_cent(summary.flushes_dropped, summary.flushes);
     let fields = vec![in alloc;
@@ -50,6 +53,7 @@ pub(crate) fn summary_value(
             Ok(Value::from(summary.ignored_overwritten))
         ),
         ("kind", kind),
+        ("lacks", lacks),
         ("limit", Ok(Value::from(limit))),
         ("more", Ok(more)),
         ("never_persisted", Ok(Value::from(summary.never_persisted))),
