@@ -6,7 +6,7 @@ from functools import partial
 from checks import Checks
 from explained import Explained
 from machine import FENCES, FLUSHES, Trace, spelled
-from suites import FENCE, FILL, FLUSH_MARK, MARK, ORDERED, RIGHT, Programs, ids_of, put_run, report_of, suite
+from suites import FENCE, FILL, FLUSH_MARK, FLUSH_RECORD, MARK, ORDERED, RIGHT, SAVE_MARK, SAVE_RECORD, SAVED, Programs, ids_of, put_run, report_of, suite
 
 SUITES = 24
 RUNS = 3
@@ -16,6 +16,19 @@ HELPER = [
     ("clwb 0 {0}", "a.c:2 {1}"),
     ("sfence 0", "a.c:3 {1}"),
     ("isPersist 0 {0} 1", "check.c:5 claim < {1} a.c:4"),
+]
+# Bugs, each with what it is told as; no later fence saves what every second one loses.
+PLANTED = [
+    ("failure isOrderedBefore unflushed", [FILL, MARK, FLUSH_RECORD, FLUSH_MARK, FENCE, ORDERED]),
+    ("failure isOrderedBefore unflushed", [FILL, MARK, SAVE_MARK, SAVE_RECORD, ORDERED]),
+    ("failure isOrderedBefore unfenced", [FILL, FLUSH_RECORD, MARK, FENCE, SAVE_MARK, ORDERED]),
+    ("failure isOrderedBefore later", [MARK, SAVE_MARK, FILL, SAVE_RECORD, ORDERED]),
+    ("failure isPersist unflushed", [FILL, SAVED, SAVE_RECORD, MARK, SAVE_MARK]),
+    ("failure isPersist unfenced", [FILL, FLUSH_RECORD, SAVED, FENCE, MARK, SAVE_MARK]),
+    ("never_persisted unflushed", [FILL, SAVE_RECORD, MARK]),
+    ("never_persisted unfenced", [FILL, SAVE_RECORD, MARK, FLUSH_MARK]),
+    ("never_persisted unflushed", [FILL, MARK, SAVE_MARK]),
+    ("never_persisted unfenced", [MARK, SAVE_MARK, FILL, FLUSH_RECORD]),
 ]
 
 
@@ -132,15 +145,16 @@ class Causes(Checks):
         self.expect_equal("by reason", causes, {("unfenced", "a.c:put"): (1, 2), ("unflushed", "a.c:put"): (1, 2)})
 
     def test_ten_new(self):
-        """Ten programs that were right, each with one new bug: ten new causes, one in each."""
+        """Ten programs with a known bug each, and then with a new one in another function: told are those ten, each in its program."""
         programs = Programs(self.new_folder())
-        for number in range(10):
-            programs.add(f"p{number}", RIGHT)
-        for body, wanted in ((RIGHT, 0), ([FILL, MARK, FLUSH_MARK, FENCE, ORDERED], 10)):
-            for number in range(10):
-                programs.add(f"p{number}", body, lines=number)
+        known = programs.folder / "known"
+        for body_of, words, wanted in ((lambda bug: RIGHT, ["--update-baseline"], "10 causes, 0 new"), (lambda bug: bug, [], "20 causes, 10 new")):
+            for number, (_, bug) in enumerate(PLANTED):
+                programs.add(f"p{number}", body_of(bug), lines=number if words else 0, known=PLANTED[number - number % 2][1])
             suite("record", "runs", "--own", "--", *programs.script(), cwd=programs.folder)
-            told = suite("report", "runs", "--fail-on", "failure", cwd=programs.folder)
-            self.expect("new", f": {wanted} causes, {wanted} new" in told.out.splitlines()[0], told)
-        causes = [cause for cause in report_of(programs.folder / "runs")["causes"] if cause["kind"] == "failure"]
-        self.expect_equal("one in each", sorted((*cause["runs"], *{name.partition(":")[0] for name in cause["names"]}) for cause in causes), [(f"p{number}-1", f"p{number}.c") for number in range(10)])
+            told = suite("report", "runs", "--baseline", known, *words, cwd=programs.folder)
+            self.expect(wanted, wanted in told.out.splitlines()[0] and told.status == (not words), told)
+        ids = known.read_text()
+        new = [cause for cause in report_of(programs.folder / "runs")["causes"] if cause["id"] not in ids and cause["kind"] in ("failure", "never_persisted")]
+        came = sorted((*cause["runs"], f"{cause['kind']} {cause['reason']}", *set(cause["names"])) for cause in new)
+        self.expect_equal("one in each", came, [(f"p{number}-1", wanted, f"p{number}.c:p{number}_save") for number, (wanted, _) in enumerate(PLANTED)])

@@ -175,7 +175,7 @@ class Parts(Checks):
         failures = sorted((cause["reason"], cause["names"][0], cause["runs"]) for cause in report["causes"] if cause["kind"] == "failure")
         self.expect_equal("each claim fails, by one cause", failures, [("isOrderedBefore unflushed", f"{name}.c:{name}_save", {f"{name}-1": count}) for name, count in (("long", 150_000), ("short", 2))])
         told = run([TOP / "replay/pmtrim-replay", "--base", "runs/long-1/trace.0003.trace"], {"PMTRIM": self.program}, cwd=programs.folder)
-        self.expect("the base of a part", told.status == 0 and (programs.folder / "runs/long-1/trace.0003.trace.base").stat().st_size == 128, told)
+        self.expect("the base of a part", told.status == 0 and (programs.folder / "runs/long-1/trace.0003.trace.base").stat().st_size == 2 * 128, told)
 
     def test_recorded(self):
         """A program that makes more events than a trace has: it is recorded in parts, and reported as one run beside a clean one."""

@@ -85,14 +85,22 @@ PROGRAM = """\
 static struct {{
     _Alignas(64) char record[64];
     uint64_t mark;
-}} pool;
+}} pools[2];
 
+#define pool pools[0]
+static void {name}_known(void) {{
+{known}
+}}
+#undef pool
+
+#define pool pools[1]
 static void {name}_save(void) {{
 {body}
 }}
 
 int main(void) {{
-    pmtrace_open("{name}.trace", &pool, sizeof pool, 64);
+    pmtrace_open("{name}.trace", pools, sizeof pools, 64);
+    {name}_known();
     {name}_save();
     return pmtrace_close() == 0 ? 0 : 1;
 }}
@@ -131,9 +139,9 @@ class Programs:
         told = run(["gcc", "-pthread", "-I", TOP / "recorders/c", *words], cwd=self.folder)
         assert told.status == 0, told.err
 
-    def add(self, name, body, lines=0):
-        """A program that does this in a function of its own, with so many more lines above it."""
-        (self.folder / f"{name}.c").write_text(PROGRAM.format(name=name, body="\n".join(body), lines="\n" * lines))
+    def add(self, name, body, lines=0, known=()):
+        """A program that does this in a function of its own, with so many more lines above it; and before it what is known in another one."""
+        (self.folder / f"{name}.c").write_text(PROGRAM.format(name=name, body="\n".join(body), lines="\n" * lines, known="\n".join(known)))
         self.compile(f"{name}.c", "recorder.o", "-o", name)
         if name not in self.names:
             self.names.append(name)
