@@ -26,30 +26,34 @@ function lineRowOf(trace, line, place) {
   return { address: hex(trace.addressOfLine(line)), safe: state.safe - state.begin, stores: state.end - state.begin, lost };
 }
 
+// How many stores of a line the program's own crash leaves persisted: those that are safe, but all of the line of the kept store.
+function persistedIn(trace, own, line) {
+  const { begin, safe, end } = trace.state(line, own.place);
+  const isKept = own.kept !== null && trace.lineOf[own.kept.store.event] === line;
+  return (isKept ? end : safe) - begin;
+}
+
 // The stores that the program's own crash loses of the range that is to be kept: the last ones to its bytes, those that come after the
 // crash and, of each line, those behind the stores that are persisted.
 function lostStores(trace, own) {
-  const persisted = new Map(own.lines.map((line) => [line.cache_line, line.persisted]));
   const last = new Set(wantedAt(trace, trace.ranges(own.event.event)[0], own.event.event));
   return [...last].filter((store) => {
     if (store === 0 || store > own.place) return store !== 0;
     const { starts, list } = trace.storesOf;
     const line = trace.lineOf[store];
     const before = firstAbove(list, starts[line], starts[line + 1], store - 1) - starts[line];
-    return before >= (persisted.get(hex(trace.addressOfLine(line))) ?? Infinity);
+    return before >= persistedIn(trace, own, line);
   });
 }
 
 // The rows of the program's own crash: the lines that the finding is about, and the others that lose a store, the first few.
 function ownRows(trace, own, focus) {
-  const losing = new Map(own.lines.map((line) => [line.cache_line, line]));
   const about = focus.lines.map((line) => hex(trace.addressOfLine(line)));
-  const rows = [...new Set([...about, ...losing.keys()])].slice(0, MOST_ROWS).map((address) => {
+  const rows = [...new Set([...about, ...own.lines.map((line) => line.cache_line)])].slice(0, MOST_ROWS).map((address) => {
     const line = trace.lineAt(Number(address));
     const begin = trace.storesOf.starts[line];
-    const state = trace.state(line, own.place);
-    const stores = state.end - begin;
-    const safe = losing.get(address)?.persisted ?? stores;
+    const stores = trace.state(line, own.place).end - begin;
+    const safe = persistedIn(trace, own, line);
     return { address, safe, stores, lost: [...trace.storesOf.list.subarray(begin + safe, begin + Math.min(safe + 8, stores))] };
   });
   return rows.sort((a, b) => Number(a.address) - Number(b.address));
@@ -213,7 +217,7 @@ class Crash {
   }
 
   rest(rows, own, total) {
-    const all = own === null ? total : own.lines.length;
+    const all = own === null ? total : own.lines.length + own.more_lines;
     const left = all - rows.filter((row) => row.safe < row.stores).length;
     const whole = own === null ? '' : ` ${count(own.whole_lines, 'cache line loses', 'cache lines lose')} nothing.`;
     const more = left > 0 ? `${count(left, 'more line')} with stores that ${own === null ? 'may be lost' : 'are lost'}.` : '';

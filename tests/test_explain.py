@@ -372,6 +372,10 @@ class Explain(Checks):
         self.expect_equal("a failure asked for is told in full", *told)
         size = len(self.told(many_failures(), "--json"))
         self.expect("the JSON of 300 failures", size < 2_000_000, f"{size} bytes, wanted less than 2000000")
+        stores = "".join(f"store 0 {64 * number:#x} 01\n" for number in range(500))
+        claims = "".join(f"isPersist {thread} {64 * thread:#x} 1\n" for thread in range(256))
+        size = len(self.told(f"pmtrace 1\n{stores}{claims}", "--json", "--limit", "all"))
+        self.expect("the JSON of 256 failures and 500 lost lines", size < 2_500_000, f"{size} bytes, wanted less than 2500000")
 
 
 add_tests(Explain, Explain.check_text, {f"text_of_{path.stem}": path for path in sorted(TEXTS.glob("*.text"))})

@@ -71,6 +71,15 @@ class Schema(Checks):
         unseen = [name for name in names_of(json.loads(SCHEMA.read_text())) if not any(f'"{name}"' in line for line in self.lines)]
         self.expect_equal("names that no line has", unseen, [])
 
+    def test_many_lines(self):
+        """Of the cache lines that lose a store the first hundred, and how many more there are."""
+        stores = "".join(f"store 0 {0x1000 + 64 * line:#x} 01\n" for line in range(130))
+        text = f"pmtrace 1\n{stores}isPersist 0 0x1000 1\n"
+        done = subprocess.run([os.environ["PMTRIM"], "explain", "--json"], input=text.encode(), capture_output=True, timeout=120)
+        (told,) = (entry for entry in map(json.loads, lines_of(done)) if entry["kind"] == "failure")
+        wanted = [{"cache_line": hex(0x1000 + 64 * line), "persisted": 0, "stores": 1} for line in range(100)]
+        self.expect_equal("lines", (told["lines"], told["more_lines"], told["whole_lines"]), (wanted, 30, 0))
+
     def test_wrong_lines(self):
         """Of each set of kinds, causes, reasons and mends one line, with each thing in it wrong in turn."""
         short = sorted((line for line in self.lines if len(line) < 3000), key=len)

@@ -14,6 +14,7 @@ from machine import FENCES, FLUSHES, Trace, entries_at, is_empty_fence, is_kept,
 
 KINDS = ("failure", "never_persisted", "dropped", "overwritten", "unwritten", "late", "hint")
 ANY_FLUSH = ("clflush", *FLUSHES)
+MOST_LINES = 100  # of those that a crash leaves without a store
 
 
 NOTHING = {"from": None, "label": None, "only": None, "range": None, "thread": None, "to": None}
@@ -144,7 +145,8 @@ class Explained:
             "kept": kept and {"byte": hex(kept[1]), "store": self.event(kept[0])},
             "lost": {"byte": hex(lost[1]), "store": self.event(lost[0])},
             "cause": self.cause(lost[0], place),
-            "lines": losing,
+            "lines": losing[:MOST_LINES],
+            "more_lines": len(losing[MOST_LINES:]),
             "whole_lines": len(lines) - len(losing),
             "ranges": [self.memory(span, place, state) for span in spans],
         }

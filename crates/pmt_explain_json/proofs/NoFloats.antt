@@ -26,7 +26,7 @@ use Rattle.pmt_causes.specs.declared.tables.Row.{Row}
 use Rattle.pmt_causes.specs.Groups.{first_in}
 use Rattle.pmt_explanation.specs.declared.explaining.Explanation.{Explanation}
 use Rattle.pmt_failures.specs.declared.failures.RangeAfter.{RangeAfter}
-use Rattle.pmt_failures.specs.declared.failures.ShownFailure.{ShownFailure}
+use Rattle.pmt_failures.specs.declared.failures.ShownCrash.{ShownCrash}
 use Rattle.pmt_asked.specs.declared.labels.Labels.{Labels}
 use Rattle.pmt_reasons.specs.declared.mend.Mend.{Mend}
 use Rattle.pmt_reasons.specs.declared.mend.Mend.TheVariants as mends
@@ -111,15 +111,16 @@ range_after-float r =
     both (items_have_float (items_of (map byte_store r.bytes.items))) _ (array-float byte_store byte_store_number-float r.bytes.items)
     (both (items_have_float (items_of (map byte_value r.bytes.items))) false (array-float byte_value byte_value-float r.bytes.items) refl)
 
-pub failure-float : (T : Recording) (labels : Labels) (f : ShownFailure) → has_float (failure_data T labels f) ≡ false
-failure-float T labels f =
+pub failure-float : (T : Recording) (labels : Labels) (c : ShownCrash) → has_float (failure_data T labels c) ≡ false
+failure-float T labels c =
+    let f = c.shown in
     both (has_float (cause_data T labels f.cause)) _ (cause-float T labels f.cause)
     (both (has_float (event_data T labels f.event)) _ (event-float T labels f.event)
     (both (has_float (or_null (byte_store_data T labels) f.failure.kept)) _ (kept-float T labels f.failure.kept)
-    (both (items_have_float (items_of (map (line_count_data T) f.lines.items))) _ (array-float (line_count_data T) (λ c. refl) f.lines.items)
+    (both (items_have_float (items_of (map (line_count_data T) c.lines.items))) _ (array-float (line_count_data T) (λ n. refl) c.lines.items)
     (both (has_float (byte_store_data T labels f.failure.lost)) _ (byte_store-float T labels f.failure.lost)
     (both (has_float (mend_data T f.mend)) _ (mend-float T f.mend)
-    (both (items_have_float (items_of (map range_after_data f.ranges.items))) false (array-float range_after_data range_after-float f.ranges.items) refl))))))
+    (both (items_have_float (items_of (map range_after_data c.ranges.items))) false (array-float range_after_data range_after-float c.ranges.items) refl))))))
 
 pub lost-float : (T : Recording) (labels : Labels) (g : LostGroup) → has_float (lost_data T labels g) ≡ false
 lost-float T labels g =

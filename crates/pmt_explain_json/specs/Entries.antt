@@ -10,7 +10,7 @@ use Rattle.pmt_dropping.specs.declared.dropped_event.Dropped.{Dropped}
 use Rattle.pmt_explain.specs.declared.lost_grouping.LostGroup.{LostGroup}
 use Rattle.pmt_explain.specs.declared.overwritten_grouping.OverwrittenGroup.{OverwrittenGroup}
 use Rattle.pmt_failures.specs.declared.failures.RangeAfter.{RangeAfter}
-use Rattle.pmt_failures.specs.declared.failures.ShownFailure.{ShownFailure}
+use Rattle.pmt_failures.specs.declared.failures.ShownCrash.{ShownCrash}
 use Rattle.pmt_asked.specs.declared.labels.Labels.{Labels}
 use Rattle.pmt_failures.specs.declared.unwritten.Unwritten.{Unwritten}
 use Rattle.pmt_reasons.specs.Mends.{mend_of}
@@ -40,18 +40,19 @@ range_after_data r = object_of
     ∷ [])
 
 -- A failed assertion in full.
-abbrev pub failure_data : Recording → Labels → ShownFailure → Data
-failure_data T labels f = object_of
-    ((codes "cause", cause_data T labels f.cause)
-    ∷ (codes "event", event_data T labels f.event)
-    ∷ (codes "kept", or_null (byte_store_data T labels) f.failure.kept)
+abbrev pub failure_data : Recording → Labels → ShownCrash → Data
+failure_data T labels c = object_of
+    ((codes "cause", cause_data T labels c.shown.cause)
+    ∷ (codes "event", event_data T labels c.shown.event)
+    ∷ (codes "kept", or_null (byte_store_data T labels) c.shown.failure.kept)
     ∷ (codes "kind", string (codes "failure"))
-    ∷ (codes "lines", array_of (map (line_count_data T) f.lines.items))
-    ∷ (codes "lost", byte_store_data T labels f.failure.lost)
-    ∷ (codes "mend", mend_data T f.mend)
-    ∷ (codes "place", count_data f.failure.place)
-    ∷ (codes "ranges", array_of (map range_after_data f.ranges.items))
-    ∷ (codes "whole_lines", count_data f.whole_lines)
+    ∷ (codes "lines", array_of (map (line_count_data T) c.lines.items))
+    ∷ (codes "lost", byte_store_data T labels c.shown.failure.lost)
+    ∷ (codes "mend", mend_data T c.shown.mend)
+    ∷ (codes "more_lines", count_data c.more_lines)
+    ∷ (codes "place", count_data c.shown.failure.place)
+    ∷ (codes "ranges", array_of (map range_after_data c.ranges.items))
+    ∷ (codes "whole_lines", count_data c.whole_lines)
     ∷ [])
 
 -- Stores that are never persisted.
@@ -97,8 +98,8 @@ unwritten_data T labels u = object_of
     ∷ (codes "ranges", array_of (map range_data (ranges_of u.first ++ ranges_of u.second)))
     ∷ [])
 
-abbrev pub failure_line : Recording → Labels → ShownFailure → List ℕ
-failure_line T labels f = json_line (failure_data T labels f)
+abbrev pub failure_line : Recording → Labels → ShownCrash → List ℕ
+failure_line T labels c = json_line (failure_data T labels c)
 
 abbrev pub lost_line : Recording → Labels → LostGroup → List ℕ
 lost_line T labels g = json_line (lost_data T labels g)

@@ -7,6 +7,8 @@ use Rattle.pmt_explanation.specs.declared.explaining.Explanation.{Explanation}
 use Rattle.pmt_asked.specs.declared.ignoring.ByteRange.{ByteRange}
 use Rattle.pmt_asked.specs.declared.labels.Labels.{Labels}
 use Rattle.pmt_explanation.specs.declared.summing.Summary.{Summary}
+use Rattle.pmt_failures.specs.declared.failures.ShownCrash.{ShownCrash}
+use Rattle.pmt_failures.specs.Showing.{AreShownCrashes}
 use Rattle.pmt_asked.specs.Choosing.{kind_name}
 use Rattle.pmt_explanation.specs.Counting.{per_cent}
 use Rattle.pmt_explanation.specs.Summing.{IsSummary}
@@ -80,12 +82,13 @@ summary_data s limit c more lacks = object_of
 abbrev pub summary_line : Explanation → Choice → Summary → List Lack → List ℕ
 summary_line x c s lacks = json_line (summary_data s x.limit c (more_data x) lacks)
 
--- The summary and the entries of each kind, an object a line: of each kind at most as many as the limit says, the first ones.
-unfoldable pub json_lines : Explanation → Choice → Summary → List Lack → Labels → List ℕ
-json_lines x c s lacks labels =
+-- The summary and the entries of each kind, an object a line: of each kind at most as many as the limit says, the first ones; and what the
+-- crashes of the failed assertions leave.
+unfoldable pub json_lines : Explanation → Choice → Summary → List Lack → List ShownCrash → Labels → List ℕ
+json_lines x c s lacks crashes labels =
     summary_line x c s lacks
     ++ cause_lines labels (take x.limit x.causes.items) x.counts.items (length (take x.limit x.causes.items))
-    ++ flat_map (failure_line x.analysis.trace labels) x.failures.items
+    ++ flat_map (failure_line x.analysis.trace labels) crashes
     ++ flat_map (lost_line x.analysis.trace labels) (take x.limit x.lost.items)
     ++ flat_map (dropped_line x.analysis.trace labels) (take x.limit x.asked_dropped.items)
     ++ flat_map (overwritten_line x.analysis.trace labels) (take x.limit x.overwritten.items)
@@ -94,4 +97,5 @@ json_lines x c s lacks labels =
 
 -- The text is the explanation's, with its counts, with what was asked for and with what the trace lacks.
 abbrev pub IsJsonText : Explanation → Labels → Choice → List Lack → List ℕ → Type 0
-IsJsonText x labels c lacks text = (s : Summary) × IsSummary x s × (text ≡ json_lines x c s lacks labels)
+IsJsonText x labels c lacks text =
+    (s : Summary) × (crashes : List ShownCrash) × IsSummary x s × AreShownCrashes x.analysis.trace x.failures.items crashes × (text ≡ json_lines x c s lacks crashes labels)

@@ -9,7 +9,7 @@ use crate::parts::{byte_store_value, cause_value, event_value, line_value, mend_
 use crate::words::address_text;
 use pmt_asked::Labels;
 use pmt_explain::{CrashByte, LineCount};
-use pmt_failures::{RangeAfter, ShownFailure};
+use pmt_failures::{RangeAfter, ShownCrash};
 use pmt_model::{OutOfMemory, Trace};
 use pmt_reasons::ByteStore;
 use serde_json::Value;
@@ -20,18 +20,19 @@ pub(crate) fn failure_value(
     alloc: Global,
     trace: &Trace,
     labels: &Labels,
-    shown: &ShownFailure,
+    crash: &ShownCrash,
 ) -> Result<Value, OutOfMemory>
-    ensures { IfOk result (λ v. view v ≡ failure_data trace.now labels.now shown.now) }
+    ensures { IfOk result (λ v. view v ≡ failure_data trace.now labels.now crash.now) }
 {
+    let shown = &crash.shown;
     let kind = Value::try_from_str(alloc, "failure");
     let event = event_value(alloc, trace, labels, shown.event);
     let kept = kept_value(alloc, trace, labels, shown.failure.kept);
     let lost = byte_store_value(alloc, trace, labels, shown.failure.lost);
     let cause = cause_value(alloc, trace, labels, shown.cause);
     let mend = mend_value(alloc, trace, shown.mend);
-    let lines = lines_value(alloc, trace, shown.lines.as_slice());
-    let ranges = ranges_value(alloc, shown.ranges.as_slice());
+    let lines = lines_value(alloc, trace, crash.lines.as_slice());
+    let ranges = ranges_value(alloc, crash.ranges.as_slice());
     let fields = vec![in alloc;
         ("cause", cause),
         ("event", event),
@@ -40,9 +41,10 @@ pub(crate) fn failure_value(
         ("lines", lines),
         ("lost", lost),
         ("mend", mend),
+        ("more_lines", Ok(Value::from(crash.more_lines))),
         ("place", Ok(Value::from(shown.failure.place))),
         ("ranges", ranges),
-        ("whole_lines", Ok(Value::from(shown.whole_lines))),
+        ("whole_lines", Ok(Value::from(crash.whole_lines))),
     ]?;
     object_made(alloc, fields)
 }
@@ -62,7 +64,7 @@ fn kept_value(
     }
 }
 
-// How many stores the crash leaves persisted, of each line that loses one.
+// How many stores the crash leaves persisted, of lines that lose one.
 fn lines_value(alloc: Global, trace: &Trace, lines: &[LineCount]) -> Result<Value, OutOfMemory>
     ensures { IfOk result (λ v. view v ≡ array_of (map (line_count_data trace.now) lines.now)) }
 {

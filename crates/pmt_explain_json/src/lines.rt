@@ -1,8 +1,10 @@
 //! The lines of JSON that tell an explanation.
-ghost use Rattle.std.specs.Prelude.{◌≡◌, ◌++◌, IfOk, OnOk, false, length, slice_get};
+ghost use Rattle.std.specs.Prelude.{◌≡◌, ◌++◌, IfOk, List, OnOk, false, length, slice_get};
 ghost use Rattle.std.specs.List.{flat_map};
 ghost use Rattle.serde_json.specs.View.{view};
 ghost use Rattle.serde_json.specs.Written.{has_float};
+ghost use Rattle.pmt_failures.specs.declared.failures.ShownCrash.{ShownCrash};
+ghost use Rattle.pmt_failures.specs.Showing.{AreShownCrashes, IsShownCrash};
 ghost use Rattle.pmt_explain_json.specs.Parts.{json_line};
 ghost use Rattle.pmt_explain_json.specs.Entries.{dropped_line, failure_line, lost_line, overwritten_line, unwritten_line};
 ghost use Rattle.pmt_explain_json.specs.Groups.{cause_line, cause_line_of, cause_lines};
@@ -19,7 +21,7 @@ use pmt_causes::{CauseCounts, FailureKey, Group};
 use pmt_dropping::Dropped;
 use pmt_explain::{LostGroup, OverwrittenGroup};
 use pmt_explanation::{Explanation, Summary, first, summary_of};
-use pmt_failures::{ShownFailure, Unwritten};
+use pmt_failures::{ShownFailure, Unwritten, shown_crash};
 use pmt_model::{OutOfMemory, Trace};
 use serde_json::Value;
 use std::alloc::Global;
@@ -154,7 +156,7 @@ fn push_failures(
     labels: &Labels,
     failures: &[ShownFailure],
 ) -> Result<(), OutOfMemory>
-    ensures { OnOk result (text.new.items ≡ text.old.items ++ flat_map (failure_line trace.now labels.now) failures.now) }
+    ensures { OnOk result ((crashes : List ShownCrash) × AreShownCrashes trace.now failures.now crashes × (text.new.items ≡ text.old.items ++ flat_map (failure_line trace.now labels.now) crashes)) }
 {
     for shown in failures {
         push_failure(alloc, text, trace, labels, shown)?;
@@ -162,7 +164,7 @@ fn push_failures(
     Ok(())
 }
 
-// Adds the failed assertion.
+// Adds the failed assertion, with what its crash leaves.
 fn push_failure(
     alloc: Global,
     text: &mut Vec<u8>,
@@ -170,10 +172,12 @@ fn push_failure(
     labels: &Labels,
     shown: &ShownFailure,
 ) -> Result<(), OutOfMemory>
-    ensures { OnOk result (text.new.items ≡ text.old.items ++ failure_line trace.now labels.now shown.now) }
+    ensures { OnOk result ((crash : ShownCrash) × IsShownCrash trace.now crash × (crash.shown ≡ shown.now) × (text.new.items ≡ text.old.items ++ failure_line trace.now labels.now crash)) }
 {
-    let value = failure_value(alloc, trace, labels, shown)?;
-    push_value(alloc, text, &value)
+    let crash = shown_crash(alloc, trace, shown)?;
+    let value = failure_value(alloc, trace, labels, &crash)?;
+    push_value(alloc, text, &value)?;
+    Ok(())
 }
 
 // Adds the groups of stores that are never persisted.

@@ -7,7 +7,7 @@ use crate::inside::push_inside;
 use crate::ranges::push_range;
 use crate::story::push_story;
 use pmt_causes::{FailureKey, Group};
-use pmt_failures::ShownFailure;
+use pmt_failures::{ShownCrash, ShownFailure, shown_crash};
 use pmt_pen::Pen;
 use pmt_reasons::ByteStore;
 use pmt_telling::{
@@ -83,8 +83,13 @@ fn push_failure(
     let line = shown.failure.lost.byte / told.trace.format().line_size();
     push_cause(pen, told, shown.cause, line);
     push_mend(pen, told, "  mend:   ", shown.mend);
-    push_range(pen, told, shown);
-    push_lines(pen, told, shown);
+    match shown_crash(told.alloc, told.trace, shown) {
+        Ok(crash) => {
+            push_range(pen, told, &crash);
+            push_lines(pen, told, &crash);
+        }
+        Err(_) => pen.refuse(),
+    }
 }
 
 // Adds the crash: where it comes, and which store it keeps, if that is told, and which it loses.
@@ -105,18 +110,24 @@ fn push_byte(pen: &mut Pen, told: &Telling<'_>, form: &str, stored: ByteStore) {
 }
 
 // Adds of which cache lines the crash keeps fewer stores than there are, and of how many it keeps all.
-fn push_lines(pen: &mut Pen, told: &Telling<'_>, shown: &ShownFailure) {
+fn push_lines(pen: &mut Pen, told: &Telling<'_>, crash: &ShownCrash) {
     let mut kept = Pen::new(pen.alloc());
     kept.put("  kept:  ");
-    for line in shown.lines.iter().take(FEW) {
+    for line in crash.lines.iter().take(FEW) {
         let addr = line_address(told.trace, line.line);
         kept.fill(" # of # in @;", &[line.persisted, line.stores, addr]);
     }
-    let more = shown.lines.len().saturating_sub(FEW);
+    let told_more = crash.lines.len().saturating_sub(FEW) as u64;
+    let more = told_more.saturating_add(crash.more_lines);
     if more > 0 {
-        kept.fill(" not all in # more (--json has them);", &[more as u64]);
+        kept.fill(" not all in # more (--json has ", &[more]);
+        kept.put(if crash.more_lines == 0 {
+            "them);"
+        } else {
+            "some);"
+        });
     }
-    let whole = shown.whole_lines;
+    let whole = crash.whole_lines;
     kept.fill(" all stores in # other cache line", &[whole]);
     kept.put(plural(whole));
     push_wrapped(pen, &kept, SOURCE);

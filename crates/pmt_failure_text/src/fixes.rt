@@ -1,5 +1,6 @@
 //! What mends a failed assertion, in a sentence.
 
+use crate::ranges::claimed;
 use pmt_failures::ShownFailure;
 use pmt_model::{Event, Op, Range, Trace, line_of};
 use pmt_pen::Pen;
@@ -46,8 +47,8 @@ fn push_fence(
     after: u64,
     before: Option<u64>,
 ) {
-    let last = match shown.ranges.first() {
-        Some(range) => last_flush(told.trace, range.range, thread, after, before),
+    let last = match claimed(told.trace, shown.event) {
+        Some(range) => last_flush(told.trace, range, thread, after, before),
         None => after,
     };
     pen.fill("sfence by thread # right after ", &[thread as u64]);

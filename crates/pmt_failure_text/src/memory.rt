@@ -3,7 +3,7 @@ ghost use Rattle.std.specs.Prelude.{◌≤◌, length};
 
 use pmt_explain::CrashByte;
 use pmt_failures::RangeAfter;
-use pmt_model::{Op, OutOfMemory, WordStore};
+use pmt_model::{Op, OutOfMemory, Range, WordStore};
 use pmt_pen::Pen;
 use pmt_telling::{Telling, push_count};
 
@@ -61,49 +61,67 @@ pub(crate) fn cells_of(
     number: u64,
     after: &RangeAfter,
 ) -> Result<Vec<Cell>, OutOfMemory> {
+    let last = last_stores(told, number, after.range)?;
     let mut cells = Vec::with_capacity(told.alloc, after.bytes.len())?;
-    for byte in after.bytes.as_slice() {
-        cells.push(cell_of(*byte))?;
-    }
-    let first = after.range.addr().get();
-    for index in 0..number {
-        let number = index.saturating_add(1);
-        let Some(event) = told.trace.get(number) else {
-            break;
-        };
-        let op = event.op;
-        if let Op::Store(store) = op {
-            note_store(cells.as_mut_slice(), first, &store, number);
-        }
+    for (byte, store) in after.bytes.iter().zip(last.iter()) {
+        cells.push(cell_of(*byte, *store))?;
     }
     Ok(cells)
 }
 
-// The byte, where no store to it is lost.
-fn cell_of(byte: CrashByte) -> Cell {
+// The byte, to which this is the last store by the assertion; 0 where there is none.
+fn cell_of(byte: CrashByte, last: u64) -> Cell {
     let (kept, value) = match byte.last {
         Some(stored) => (Some(stored.store), stored.value),
         None => (None, 0),
     };
+    let is_lost = last > 0 && kept != Some(last);
     Cell {
         addr: byte.byte,
         kept,
         value,
-        lost: None,
+        lost: if is_lost { Some(last) } else { None },
     }
 }
 
-// Notes the store at the bytes that it writes, of those from `first` on.
-fn note_store(cells: &mut [Cell], first: u64, store: &WordStore, number: u64) {
-    let start = store.addr().get();
-    let end = start.saturating_add(store.bytes().len() as u64);
-    for byte in start.max(first)..end.min(first.saturating_add(cells.len() as u64)) {
-        let place = byte.saturating_sub(first) as usize;
-        if place < cells.len() {
-            let is_kept = cells[place].kept == Some(number);
-            cells[place].lost = if is_kept { None } else { Some(number) };
+// The last store to each byte of the range by the event with this number, lowest byte first; 0 where there is none. It goes back from the
+// event until it knows them all.
+pub(crate) fn last_stores(
+    told: &Telling<'_>,
+    number: u64,
+    range: Range,
+) -> Result<Vec<u64>, OutOfMemory> {
+    let mut stores = vec![in told.alloc; 0; range.len() as usize]?;
+    let mut left = range.len();
+    for before in (1..number).rev() {
+        if left == 0 {
+            break;
+        }
+        let Some(event) = told.trace.get(before) else {
+            break;
+        };
+        let op = event.op;
+        if let Op::Store(store) = op {
+            let noted = note_store(stores.as_mut_slice(), range.addr().get(), &store, before);
+            left = left.saturating_sub(noted);
         }
     }
+    Ok(stores)
+}
+
+// Notes the store at the bytes that it writes and that know none, of those from `first` on; and tells how many these are.
+fn note_store(stores: &mut [u64], first: u64, store: &WordStore, number: u64) -> u64 {
+    let start = store.addr().get();
+    let end = start.saturating_add(store.bytes().len() as u64);
+    let mut noted = 0u64;
+    for byte in start.max(first)..end.min(first.saturating_add(stores.len() as u64)) {
+        let place = byte.saturating_sub(first) as usize;
+        if place < stores.len() && stores[place] == 0 {
+            stores[place] = number;
+            noted = noted.saturating_add(1);
+        }
+    }
+    noted
 }
 
 // How many bytes stand first that are of the same store, or of none, and lose the same one; at most 16.

@@ -1,7 +1,7 @@
 //! The ranges of a failed assertion, cache line by cache line, in words.
 
 use crate::memory::{Cell, cells_of, push_memory};
-use pmt_failures::{RangeAfter, ShownFailure};
+use pmt_failures::{RangeAfter, ShownCrash, ShownFailure};
 use pmt_model::{Event, Op, OutOfMemory, Range, Trace, line_of};
 use pmt_pen::Pen;
 use pmt_telling::{SOURCE, Telling, line_address, push_count, push_words, push_wrapped};
@@ -30,8 +30,8 @@ struct RangeLine {
 }
 
 // Adds the lines of the range that the assertion wants kept.
-pub(crate) fn push_range(pen: &mut Pen, told: &Telling<'_>, shown: &ShownFailure) {
-    let Some(after) = shown.ranges.first() else {
+pub(crate) fn push_range(pen: &mut Pen, told: &Telling<'_>, crash: &ShownCrash) {
+    let Some(after) = crash.ranges.first() else {
         return;
     };
     pen.put("  the ");
@@ -40,7 +40,7 @@ pub(crate) fn push_range(pen: &mut Pen, told: &Telling<'_>, shown: &ShownFailure
         " from @ on, by cache line, at the crash:\n",
         &[after.range.addr().get()],
     );
-    if push_after(pen, told, shown, after).is_err() {
+    if push_after(pen, told, &crash.shown, after).is_err() {
         pen.refuse();
     }
 }
@@ -58,6 +58,17 @@ fn push_after(
     push_lines(pen, told, first, lines.as_slice());
     push_memory(pen, cells.as_slice());
     Ok(())
+}
+
+// The range that the assertion wants kept.
+pub(crate) fn claimed(trace: &Trace, number: u64) -> Option<Range> {
+    let op = trace.get(number)?.op;
+    match op {
+        Op::IsPersist(range) => Some(range),
+        Op::IsOrderedBefore(range, _) => Some(range),
+        Op::Store(_) | Op::Clwb(_) | Op::ClflushOpt(_) | Op::Clflush(_) | Op::Sfence | Op::Mfence =>
+            None,
+    }
 }
 
 // The lines of the range, lowest first.

@@ -1,15 +1,17 @@
 //! The story of a failed assertion: the few events that tell of the lost store, in order, with the crash between them.
 
 use crate::asides::push_asides;
-use crate::memory::cells_of;
+use crate::memory::last_stores;
+use crate::ranges::claimed;
+use pmt_explain::cause;
 use pmt_failures::ShownFailure;
 use pmt_model::OutOfMemory;
 use pmt_pen::Pen;
 use pmt_reasons::Cause;
 use pmt_slices::{Part, Story, story_of};
 use pmt_telling::{
-    Hinting, StoryColumns, StoryRow, Telling, plural, push_story_break, push_story_row,
-    spelling_of, story_columns, story_row,
+    Hinting, StoryColumns, StoryRow, Telling, line_of_store, plural, push_story_break,
+    push_story_row, spelling_of, story_columns, story_row,
 };
 
 // Adds the events of the story, a line each, and the crash; and what else is known of why the store is lost.
@@ -62,19 +64,34 @@ fn rows_of<'a>(
 
 // How many other stores the crash loses that are the last ones to bytes of the range that is to be kept.
 fn lost_beside(told: &Telling<'_>, shown: &ShownFailure) -> Result<u64, OutOfMemory> {
-    let Some(after) = shown.ranges.first() else {
+    let Some(range) = claimed(told.trace, shown.event) else {
         return Ok(0);
     };
-    let cells = cells_of(told, shown.event, after)?;
-    let mut lost = Vec::new(told.alloc);
-    for cell in cells.as_slice() {
-        if let Some(store) = cell.lost {
-            lost.push(store)?;
+    let mut stores = last_stores(told, shown.event, range)?;
+    stores.sort_unstable();
+    stores.dedup();
+    let mut lost = 0u64;
+    for store in stores.as_slice() {
+        if *store > 0 && is_lost(told, shown, *store) {
+            lost = lost.saturating_add(1);
         }
     }
-    lost.sort_unstable();
-    lost.dedup();
-    Ok((lost.len() as u64).saturating_sub(1))
+    Ok(lost.saturating_sub(1))
+}
+
+// Whether the crash loses the store: it comes later, or is of another line than the kept store and not safe by then.
+fn is_lost(told: &Telling<'_>, shown: &ShownFailure, store: u64) -> bool {
+    let failure = &shown.failure;
+    if store > failure.place {
+        return true;
+    }
+    if let Some(kept) = failure.kept {
+        if line_of_store(told.trace, kept.store) == line_of_store(told.trace, store) {
+            return false;
+        }
+    }
+    told.explanation.stores.binary_search(&store).is_ok()
+        || cause(told.trace, store, failure.place).is_some()
 }
 
 // Adds what the event is to the failure, by whether it comes after the crash; beside the lost store the crash loses so many others.

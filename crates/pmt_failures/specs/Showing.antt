@@ -1,5 +1,5 @@
 -- Failed assertions in full.
-use Rattle.std.specs.Prelude.{◌≡◌, ℕ, ◌-◌, nat_eq, nat_lt, Bool, false, List, [], ◌∷◌, length, map, filter, Option, None, Some, unwrap_or}
+use Rattle.std.specs.Prelude.{◌≡◌, ℕ, ◌-◌, nat_eq, nat_lt, Bool, false, List, [], ◌∷◌, length, take, map, filter, Option, None, Some, unwrap_or}
 use Rattle.std.specs.List.{All}
 use Rattle.std.specs.Option.{option_eq}
 use Rattle.pmt_model.specs.Values.{Layout, Span, line_of}
@@ -18,6 +18,7 @@ use Rattle.pmt_explain.specs.CauseOf.{IsCauseOf}
 use Rattle.pmt_explain.specs.Crashes.{full_line, line_count, AreCrashBytes}
 use Rattle.pmt_explain.specs.Grouping.{Picks}
 use Rattle.pmt_failures.specs.declared.failures.RangeAfter.{RangeAfter}
+use Rattle.pmt_failures.specs.declared.failures.ShownCrash.{ShownCrash}
 use Rattle.pmt_failures.specs.declared.failures.ShownFailure.{ShownFailure}
 
 -- The bytes are what the crash leaves in the range.
@@ -80,16 +81,24 @@ crash_counts T f = map (line_count T f.place (full_line T f.kept)) (lines_of (hi
 abbrev pub lines_with_loss : List LineCount → List LineCount
 lines_with_loss counts = filter (λ (c : LineCount). nat_lt c.persisted c.stores) counts
 
--- The assertion fails so: by this crash, which loses the store for this cause, and is no crash where this mend is put in; it leaves these stores of
--- each line that loses one, and these bytes.
+-- The assertion fails so: by this crash, which loses the store for this cause, and is no crash where this mend is put in.
 pub record IsShown (T : Recording) (s : ShownFailure) : Type 0 where
   pub fails : IsFailureAt T s.event (Some s.failure)
   pub why : IsCauseOf T s.failure.place s.failure.lost.store (Some s.cause)
   pub mend : s.mend ≡ failure_mend T s.failure s.cause
   pub mends : MendsFailure T s.event s.failure s.mend
-  pub lines : s.lines.items ≡ lines_with_loss (crash_counts T s.failure)
-  pub whole_lines : s.whole_lines ≡ length (crash_counts T s.failure) - length s.lines.items
-  pub ranges : AreRangesAfter T s.event s.failure s.ranges.items
+
+-- The crash leaves these stores of each of the first lines that lose one, and these bytes; so many more lines lose one, and so many lose none.
+pub record IsShownCrash (T : Recording) (c : ShownCrash) : Type 0 where
+  pub lines : c.lines.items ≡ take 100 (lines_with_loss (crash_counts T c.shown.failure))
+  pub more_lines : c.more_lines ≡ length (lines_with_loss (crash_counts T c.shown.failure)) - 100
+  pub whole_lines : c.whole_lines ≡ length (crash_counts T c.shown.failure) - length (lines_with_loss (crash_counts T c.shown.failure))
+  pub ranges : AreRangesAfter T c.shown.event c.shown.failure c.ranges.items
+
+-- These are the crashes of the failed assertions, in their order.
+pub record AreShownCrashes (T : Recording) (shown : List ShownFailure) (crashes : List ShownCrash) : Type 0 where
+  pub each : All (IsShownCrash T) crashes
+  pub all : map (λ (c : ShownCrash). c.shown) crashes ≡ shown
 
 -- Event i is an assertion that doesn't pass.
 abbrev pub Fails : Recording → ℕ → Type 0

@@ -2,7 +2,7 @@
 ghost use Rattle.std.specs.Prelude.{◌≡◌, IfOk, MatchOption, None};
 ghost use Rattle.pmt_reasons.specs.Failures.{IsFailureAt};
 ghost use Rattle.pmt_failures.specs.Failing.{failing_events as failing_in};
-ghost use Rattle.pmt_failures.specs.Showing.{AreRangesAfter, AreShown, IsRangeAfter, IsShown, failure_mend, lines_with_loss, store_line};
+ghost use Rattle.pmt_failures.specs.Showing.{AreRangesAfter, AreShown, IsRangeAfter, IsShown, IsShownCrash, failure_mend, lines_with_loss, store_line};
 
 use crate::mending::mend_for;
 use pmt_explain::{CrashByte, LineCount, SafePlaces, cause, crash_bytes, crash_lines, failure_by};
@@ -20,7 +20,7 @@ pub struct RangeAfter {
 }
 
 /// A failed assertion, with a crash that violates it.
-#[derive(Drop)]
+#[derive(Clone, Copy)]
 pub struct ShownFailure {
     /// The assertion's event.
     pub event: u64,
@@ -30,8 +30,20 @@ pub struct ShownFailure {
     pub cause: Cause,
     /// What makes it safe there: with it put in, no crash up to the assertion loses the store, or keeps the other without it.
     pub mend: Mend,
-    /// How many stores are persisted after the crash, of each line that loses one.
+}
+
+// The most lines of a crash that are told.
+const MOST_LINES: usize = 100;
+
+/// A failed assertion, and what its crash leaves. As large as the trace may be what crashes leave, so it is made of one failure at a time.
+#[derive(Drop)]
+pub struct ShownCrash {
+    /// The failed assertion.
+    pub shown: ShownFailure,
+    /// How many stores are persisted after the crash, of each of the first 100 lines that lose one.
     pub lines: Vec<LineCount>,
+    /// How many further lines lose one.
+    pub more_lines: u64,
     /// How many lines lose none of their stores.
     pub whole_lines: u64,
     /// What memory holds in the assertion's range, or in its two ranges, after the crash.
@@ -87,19 +99,40 @@ fn shown_failure(
     let Some(why) = cause(trace, found.lost.store, found.place) else {
         return Ok(None);
     };
-    let all_lines = crash_lines(alloc, trace, &found)?;
-    let lines = losing_lines(alloc, all_lines.as_slice())?;
-    let whole_lines = all_lines.len().saturating_sub(lines.len()) as u64;
-    let ranges = ranges_after(alloc, trace, number, &found)?;
     Ok(Some(ShownFailure {
         event: number,
         failure: found,
         cause: why,
         mend: mend_of_failure(trace, &found, why),
+    }))
+}
+
+/// The failed assertion, and what its crash leaves.
+///
+/// # Errors
+/// Where memory was refused.
+pub fn shown_crash(
+    alloc: Global,
+    trace: &Trace,
+    shown: &ShownFailure,
+) -> Result<ShownCrash, OutOfMemory>
+    ensures crash { IfOk result (λ c. IsShownCrash trace.now c) }
+    ensures same { IfOk result (λ c. c.shown ≡ shown.now) }
+{
+    let all_lines = crash_lines(alloc, trace, &shown.failure)?;
+    let mut lines = losing_lines(alloc, all_lines.as_slice())?;
+    let losing = lines.len();
+    lines.truncate(MOST_LINES);
+    let more_lines = losing.saturating_sub(MOST_LINES) as u64;
+    let whole_lines = all_lines.len().saturating_sub(losing) as u64;
+    let ranges = ranges_after(alloc, trace, shown.event, &shown.failure)?;
+    Ok(ShownCrash {
+        shown: *shown,
         lines,
+        more_lines,
         whole_lines,
         ranges,
-    }))
+    })
 }
 
 // Those of the lines that lose a store.

@@ -9,6 +9,8 @@ mod near;
 pub mod unwritten;
 mod written;
 
-pub use crate::failures::{RangeAfter, ShownFailure, failing_events, shown_failures};
+pub use crate::failures::{
+    RangeAfter, ShownCrash, ShownFailure, failing_events, shown_crash, shown_failures,
+};
 pub use crate::mending::mend_for;
 pub use crate::unwritten::{Unwritten, unwritten_assertions};

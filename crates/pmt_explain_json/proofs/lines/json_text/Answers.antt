@@ -1,5 +1,7 @@
 use Rattle.std.proofs.Common.{rules, ◌≡◌, List, [], ◌++◌, ℕ, take, length}
 use Rattle.std.specs.List.{flat_map}
+use Rattle.pmt_failures.specs.declared.failures.ShownCrash.{ShownCrash}
+use Rattle.pmt_failures.specs.Showing.{AreShownCrashes}
 use Rattle.pmt_explain_json.specs.Entries.{dropped_line, failure_line, lost_line, overwritten_line, unwritten_line}
 use Rattle.pmt_explain_json.specs.Groups.{cause_lines}
 use Rattle.pmt_explain_json.specs.Lines.{json_lines, summary_line}
@@ -16,17 +18,19 @@ returns c =
     let s = c.summary_of-counts.result in
     let a : List ℕ = summary_line x c.args.choice.now s c.args.lacks.now in
     let k : List ℕ = cause_lines labels (take x.limit x.causes.items) x.counts.items (length (take x.limit x.causes.items)) in
-    let b : List ℕ = flat_map (failure_line T labels) x.failures.items in
+    let crashes : List ShownCrash = c.in_ok-push_failures.ensures.0 in
+    let b : List ℕ = flat_map (failure_line T labels) crashes in
     let d : List ℕ = flat_map (lost_line T labels) (take x.limit x.lost.items) in
     let e : List ℕ = flat_map (dropped_line T labels) (take x.limit x.asked_dropped.items) in
     let f : List ℕ = flat_map (overwritten_line T labels) (take x.limit x.overwritten.items) in
     let g : List ℕ = flat_map (unwritten_line T labels) (take x.limit x.unwritten.items) in
     let h1 : c.push_summary.new.text.items ≡ [] ++ a = search rules in
     let h7 : c.push_causes.new.text.items ≡ c.push_summary.new.text.items ++ k = search rules in
-    let h2 : c.push_failures.new.text.items ≡ c.push_causes.new.text.items ++ b = search rules in
+    let h2 : c.push_failures.new.text.items ≡ c.push_causes.new.text.items ++ b = search (rules, c.in_ok-push_failures.ensures.2) in
     let h3 : c.push_losses.new.text.items ≡ c.push_failures.new.text.items ++ d = search rules in
     let h4 : c.push_drops.new.text.items ≡ c.push_losses.new.text.items ++ e = search rules in
     let h5 : c.push_overwritings.new.text.items ≡ c.push_drops.new.text.items ++ f = search rules in
     let h6 : c.push_unwrittens.new.text.items ≡ c.push_overwritings.new.text.items ++ g = search rules in
     let h8 : c.push_tables.new.text.items ≡ c.push_unwrittens.new.text.items ++ table_lines x labels = search rules in
-    (s, c.summary_of-counts.ensures, pushed-8 [] _ _ _ _ _ _ _ _ a k b d e f g (table_lines x labels) h1 h7 h2 h3 h4 h5 h6 h8)
+    let are : AreShownCrashes T x.failures.items crashes = search (rules, c.in_ok-push_failures.ensures.1) in
+    (s, crashes, c.summary_of-counts.ensures, are, pushed-8 [] _ _ _ _ _ _ _ _ a k b d e f g (table_lines x labels) h1 h7 h2 h3 h4 h5 h6 h8)

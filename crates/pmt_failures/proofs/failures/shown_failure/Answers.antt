@@ -33,9 +33,6 @@ returns c =
       failure = found;
       cause = cause;
       mend = c.mend_of_failure.result;
-      lines = c.in_ok-lines.lines;
-      whole_lines = c.saturating_sub-whole_lines.result;
-      ranges = c.in_ok-ranges.ranges;
     } in
     subst (λ T. IsShown T shown × (n ≡ n)) is (
       record {
@@ -43,9 +40,6 @@ returns c =
         why = why;
         mend = mend;
         mends = subst (MendsFailure U n found) (sym mend) (failure_mend-mends U n found cause fails why);
-        lines = search rules;
-        whole_lines = search rules;
-        ranges = search rules;
       },
       refl,
     )
