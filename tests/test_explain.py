@@ -13,6 +13,7 @@ from explained import KINDS, Explained, judged, with_events
 from explained_text import SCREEN, wrong_screen, wrong_text
 from machine import spelled, text_of
 from program import TOP
+from running import run
 from terminal import shown_at_a_terminal
 from worked_stories import STORIES
 
@@ -376,6 +377,18 @@ class Explain(Checks):
         claims = "".join(f"isPersist {thread} {64 * thread:#x} 1\n" for thread in range(256))
         size = len(self.told(f"pmtrace 1\n{stores}{claims}", "--json", "--limit", "all"))
         self.expect("the JSON of 256 failures and 500 lost lines", size < 2_500_000, f"{size} bytes, wanted less than 2500000")
+
+    def test_words_told(self):
+        """The command for a file whose name begins with a dash; and no error where the status is 0, as of a trace that was cut."""
+        folder = self.new_folder()
+        (folder / "-t").write_text("pmtrace 1\nstore 0 0x1000 01\n")
+        told = run([self.program, "explain", "--", "-t"], cwd=folder)
+        self.expect("lost", told.status == 1 and "\nerror: thread 0: 1 store: 1 never persisted" in told.out, told)
+        self.expect("what draws it", "pmtrim draw --line 0x1000 -- -t > event1.svg\n" in told.out, told)
+        (folder / "-t.cut").write_text("1 it was cut\n")
+        for words in ([], ["--only", "never_persisted"]):
+            told = run([self.program, "explain", *words, "--", "-t"], cwd=folder)
+            self.expect("it was cut", told.status == 0 and "\nwarning: " in told.out and "error: " not in told.out, told)
 
 
 add_tests(Explain, Explain.check_text, {f"text_of_{path.stem}": path for path in sorted(TEXTS.glob("*.text"))})

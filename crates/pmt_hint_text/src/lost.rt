@@ -7,8 +7,8 @@ use pmt_explanation::{Explanation, first};
 use pmt_failures::mend_for;
 use pmt_pen::Pen;
 use pmt_telling::{
-    HEAD, SOURCE, Section, Telling, is_unflushed, line_address, plural, push_cause, push_count,
-    push_draw, push_early, push_mend, push_named, push_source, push_wrapped, tells_all,
+    HEAD, SOURCE, Section, Telling, is_unflushed, line_address, loss_word, plural, push_cause,
+    push_count, push_draw, push_early, push_mend, push_named, push_source, push_wrapped, tells_all,
 };
 
 // The most cache lines that are named beside the one in full.
@@ -73,7 +73,7 @@ fn group_of(told: &Telling<'_>, number: u64) -> Option<LostGroup> {
 // Adds how many stores are never persisted, and to which line; and how many there are for this cause.
 fn push_head(pen: &mut Pen, told: &Telling<'_>, members: &[u64], group: &LostGroup) {
     let mut head = Pen::new(pen.alloc());
-    head.put("error: ");
+    head.put(loss_word(told));
     push_count(&mut head, group.count, "store");
     head.fill(" to cache line @", &[line_address(told.trace, group.line)]);
     head.put(if group.count == 1 {

@@ -20,8 +20,8 @@ use pmt_model::OutOfMemory;
 use pmt_pen::Pen;
 use pmt_telling::{
     CallPaths, HEAD, SOURCE, Section, Telling, is_unflushed, line_address, line_of_store,
-    push_cause, push_count, push_draw, push_early, push_mend, push_named, push_own_flush,
-    push_place_name, push_wrapped, tells_all,
+    loss_word, push_cause, push_count, push_draw, push_early, push_mend, push_named,
+    push_own_flush, push_place_name, push_wrapped, tells_all,
 };
 
 const LABELLED: &str =
@@ -353,7 +353,7 @@ fn push_head(
 ) {
     let mut head = Pen::new(pen.alloc());
     head.put(match standing_of(row) {
-        Standing::LosesSome | Standing::LosesAll => "error: ",
+        Standing::LosesSome | Standing::LosesAll => loss_word(told),
         Standing::DelaysSome => "warning: ",
         Standing::DelaysAll | Standing::Keeps => "note: ",
     });

@@ -7,7 +7,7 @@ use pmt_fates::PlaceRow;
 use pmt_model::OutOfMemory;
 use pmt_pen::Pen;
 use pmt_telling::{
-    HEAD, Telling, line_of_store, place_of, push_count, push_place_name, push_wrapped,
+    HEAD, Telling, line_of_store, loss_word, place_of, push_count, push_place_name, push_wrapped,
 };
 use std::alloc::Global;
 use std::collections::HashMap;
@@ -143,7 +143,8 @@ pub(crate) fn push_shared(
 ) {
     let stores = lost_of(rows, numbers);
     let mut head = Pen::new(pen.alloc());
-    head.fill("error: cache line @ is never flushed: ", &[line]);
+    head.put(loss_word(told));
+    head.fill("cache line @ is never flushed: ", &[line]);
     push_count(&mut head, numbers.len() as u64, "place");
     head.put(" lose all that they store to it, ");
     push_count(&mut head, stores, "store");

@@ -12,7 +12,7 @@ pub fn push_draw(pen: &mut Pen, told: &Telling<'_>, words: &str, named: u64, eve
         push_word(pen, labels);
     }
     if let Some(trace) = told.screen.trace {
-        pen.put(" ");
+        pen.put(if trace.starts_with("-") { " -- " } else { " " });
         push_word(pen, trace);
     }
     pen.fill(" > event#.svg\n", &[event]);

@@ -33,5 +33,5 @@ pub use crate::story_rows::{
     story_row,
 };
 pub use crate::telling::{
-    Screen, Telling, does_nothing, failure_of, line_address, line_of_store, tells_all,
+    Screen, Telling, does_nothing, failure_of, line_address, line_of_store, loss_word, tells_all,
 };

@@ -44,6 +44,15 @@ pub struct Telling<'a> {
     pub screen: &'a Screen<'a>,
 }
 
+/// What an entry of stores that are never persisted begins with: an error makes the status 1.
+pub fn loss_word(told: &Telling<'_>) -> &'static str {
+    if told.screen.knows_losses {
+        "error: "
+    } else {
+        "warning: "
+    }
+}
+
 /// Whether the words choose nothing, so that the whole trace is told of.
 pub fn tells_all(choice: &Choice) -> bool {
     choice.only.is_none()
