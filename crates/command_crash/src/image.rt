@@ -2,8 +2,8 @@
 ghost use Rattle.std.specs.Prelude.{◌≡◌, ◌+◌, ◌<◌, ◌^◌, IfOk};
 
 use command_inputs::{
-    Fault, Input, Opener, Recalling, Recalls, create_fault, no_failure, open_fault, opened,
-    read_file, read_origin, system_fault, trace_of,
+    Fault, Input, Opener, Recalling, Recalls, no_failure, open_fault, opened, read_file,
+    read_origin, system_fault, trace_of, write_file,
 };
 use command_requests::{AddressStores, AskedCrash, ImageWords};
 use pmt_explain::failure;
@@ -27,17 +27,13 @@ struct Base {
 ///
 /// # Errors
 /// The fault of the words, of the origin, of the trace, of the pool or of the write. A file that was written in part is removed.
-pub fn run_image<O, I, W>(
+pub fn run_image<O: Opener, I: Read, W: Write>(
     alloc: Global,
     words: &ImageWords<'_>,
     files: &O,
     input: &mut I,
     out: &mut W,
 ) -> Result<u8, Fault>
-where
-    O: Opener,
-    I: Read,
-    W: Write,
     ensures { IfOk result (λ status. status ≡ 0) }
 {
     let base = base_of(alloc, words, files)?;
@@ -61,7 +57,8 @@ fn crash_of(alloc: Global, trace: &Trace, asked: &AskedCrash) -> Result<Crash, F
     }
 }
 
-// Writes the pool after the crash to the named file, or to `out` where none is named.
+// Writes the pool after the crash to the named file, once nothing is left that could be refused, or to `out` where none is
+// named.
 fn write_pool<O: Opener, W: Write>(
     alloc: Global,
     words: &ImageWords<'_>,
@@ -72,7 +69,12 @@ fn write_pool<O: Opener, W: Write>(
     out: &mut W,
 ) -> Result<(), Fault> {
     match words.out {
-        Some(name) => write_file(alloc, files, trace, crash, base, name),
+        Some(name) => {
+            check(alloc, trace, crash, base)?;
+            write_file(alloc, files, name, base.name.as_str(), |file| {
+                write_to(alloc, files, trace, crash, base, name, file)
+            })
+        }
         None => write_to(alloc, files, trace, crash, base, "the answer", out),
     }
 }
@@ -95,14 +97,10 @@ fn base_of<O: Opener>(alloc: Global, words: &ImageWords<'_>, files: &O) -> Resul
     })
 }
 
-// The origin that stands beside the trace.
+// The origin in the file that stands beside the trace: an address on a line of its own.
 fn origin_beside<O: Opener>(alloc: Global, files: &O, trace: &str) -> Result<u64, Fault> {
     let name = format!(in alloc; "{trace}.origin")?;
-    origin_in(alloc, files, name.as_str())
-}
-
-// The origin in the named file: an address on a line of its own.
-fn origin_in<O: Opener>(alloc: Global, files: &O, name: &str) -> Result<u64, Fault> {
+    let name = name.as_str();
     let bytes = read_file(alloc, files, name)?;
     let line = match bytes.as_slice() {
         [line @ .., b'\n'] => line,
@@ -110,29 +108,23 @@ fn origin_in<O: Opener>(alloc: Global, files: &O, name: &str) -> Result<u64, Fau
     };
     match read_origin(line) {
         Some(origin) => Ok(origin),
-        None => Err(no_origin(alloc, name)?),
+        None => Err(Fault::refused(format!(in alloc;
+            "{name}: no address of a pool: it has to be one line, as 0x10000000\n"
+        ))),
     }
-}
-
-fn no_origin(alloc: Global, name: &str) -> Result<Fault, Fault> {
-    let line = format!(in alloc;
-        "{name}: no address of a pool: it has to be one line, as 0x10000000\n"
-    )?;
-    Ok(Fault::Refused(line))
 }
 
 // How many bytes the pool's file has.
 fn size_of_pool<O: Opener>(alloc: Global, files: &O, name: &str) -> Result<u64, Fault> {
     match files.size(name) {
         Ok(Some(size)) => Ok(size),
-        Ok(None) => Err(no_pool(alloc, name)?),
+        Ok(None) => Err(no_pool(alloc, name)),
         Err(error) => Err(open_fault(alloc, name, error)),
     }
 }
 
-fn no_pool(alloc: Global, name: &str) -> Result<Fault, Fault> {
-    let line = format!(in alloc; "{name}: no file of a pool\n")?;
-    Ok(Fault::Refused(line))
+fn no_pool(alloc: Global, name: &str) -> Fault {
+    Fault::refused(format!(in alloc; "{name}: no file of a pool\n"))
 }
 
 // The pool, whose addresses are numbers that the machine has.
@@ -143,7 +135,7 @@ fn pool_of(alloc: Global, base: &Base) -> Result<Pool, Fault>
     if origin < 1 << 62 && size < 1 << 62 {
         Ok(Pool { origin, size })
     } else {
-        Err(no_pool(alloc, base.name.as_str())?)
+        Err(no_pool(alloc, base.name.as_str()))
     }
 }
 
@@ -163,13 +155,10 @@ fn by_line(
 ) -> Result<Vec<LineStores>, Fault> {
     let mut counts = Vec::with_capacity(alloc, lines.len())?;
     for line in lines {
-        let count = LineStores {
+        counts.push(LineStores {
             line: line_of(format, line.address),
             stores: line.stores,
-        };
-        if counts.push(count).is_err() {
-            return Err(Fault::OutOfMemory);
-        }
+        })?;
     }
     Ok(counts)
 }
@@ -213,33 +202,25 @@ fn write_to<O: Opener, W: Write>(
     match done {
         Ok(()) => Ok(()),
         Err(ImageFault::Copy(fault)) => {
-            let errors = CopyErrors {
-                read: reader.into_inner().error(),
-                written: writer.into_inner().error(),
-            };
-            copy_fault(alloc, output, name, fault.stop, errors)
+            let read = reader.into_inner().error();
+            let written = writer.into_inner().error();
+            copy_fault(alloc, output, name, fault.stop, read, written)
         }
-        Err(fault) => Err(image_fault(alloc, base, fault)?),
+        Err(fault) => Err(image_fault(alloc, base, fault)),
     }
 }
 
-// Why the pool's reader and the answer's writer failed, if they did.
-#[derive(Clone, Copy)]
-struct CopyErrors {
-    read: Option<io::Error>,
-    written: Option<io::Error>,
-}
-
-// What comes of a copy that stopped: the fault of the pool with this name or of what was written, but a pipe whose reader has gone wants
-// no more.
+// What comes of a copy that stopped: the fault of the pool with this name or of what was written, whose last errors these
+// are, but a pipe whose reader has gone wants no more.
 fn copy_fault(
     alloc: Global,
     output: &str,
     name: &str,
     stop: Stop,
-    errors: CopyErrors,
+    read: Option<io::Error>,
+    written: Option<io::Error>,
 ) -> Result<(), Fault> {
-    match (stop, errors.read, errors.written) {
+    match (stop, read, written) {
         (Stop::Write, _, Some(error)) if error.kind() == ErrorKind::BrokenPipe => Ok(()),
         (Stop::Write, _, Some(error)) => Err(system_fault(alloc, "cannot write", output, error)),
         (Stop::Read, Some(error), _) => Err(system_fault(alloc, "cannot read", name, error)),
@@ -251,49 +232,25 @@ fn copy_fault(
     }
 }
 
-// Writes the pool to the named file, once nothing is left that could be refused; what was written in part is removed.
-fn write_file<O: Opener>(
-    alloc: Global,
-    files: &O,
-    trace: &Trace,
-    crash: &Crash,
-    base: &Base,
-    name: &str,
-) -> Result<(), Fault> {
-    check(alloc, trace, crash, base)?;
-    let mut file = match files.create(name, base.name.as_str()) {
-        Ok(file) => file,
-        Err(error) => return Err(create_fault(alloc, name, error)),
-    };
-    match write_to(alloc, files, trace, crash, base, name, &mut file) {
-        Ok(()) => Ok(()),
-        Err(fault) => {
-            files.remove(name);
-            Err(fault)
-        }
-    }
-}
-
 // Refuses a store outside of the pool.
 fn check(alloc: Global, trace: &Trace, crash: &Crash, base: &Base) -> Result<(), Fault> {
     let pool = pool_of(alloc, base)?;
     match pmt_image::check_pool(alloc, trace, crash, pool) {
         Ok(()) => Ok(()),
-        Err(fault) => Err(image_fault(alloc, base, fault)?),
+        Err(fault) => Err(image_fault(alloc, base, fault)),
     }
 }
 
 // What is told where the pool was not written.
-fn image_fault(alloc: Global, base: &Base, fault: ImageFault) -> Result<Fault, Fault> {
+fn image_fault(alloc: Global, base: &Base, fault: ImageFault) -> Fault {
     match fault {
-        ImageFault::OutOfMemory => Ok(Fault::OutOfMemory),
+        ImageFault::OutOfMemory => Fault::OutOfMemory,
         ImageFault::Outside { event, address } => {
             let Pool { origin, size } = base.pool;
-            let line = format!(in alloc;
+            Fault::refused(format!(in alloc;
                 "event {event} stores to {address:#x}, which lies outside of the pool: {size} bytes from {origin:#x} on\n"
-            )?;
-            Ok(Fault::Refused(line))
+            ))
         }
-        ImageFault::Copy(_) => Ok(Fault::File),
+        ImageFault::Copy(_) => Fault::File,
     }
 }

@@ -1,7 +1,7 @@
 //! `image --list`: the crashes near each place.
 ghost use Rattle.std.specs.Prelude.{◌≡◌, IfOk};
 
-use command_inputs::{Fault, Input, Opener, create_fault, system_fault, trace_of};
+use command_inputs::{Fault, Input, Opener, system_fault, trace_of, write_file};
 use command_requests::{ListWords, has_place};
 use pmt_image::{LineStores, Walk, is_turn, push_crash};
 use pmt_model::Trace;
@@ -28,47 +28,24 @@ struct Lister<'a, W: Write> {
 ///
 /// # Errors
 /// The fault of the trace, of a place past its end, or of the write; the first lines may be out after one of the write, or of memory.
-pub fn run_list<O, I, W>(
+pub fn run_list<O: Opener, I: Read, W: Write>(
     alloc: Global,
     words: &ListWords<'_>,
     files: &O,
     input: &mut I,
     out: &mut W,
 ) -> Result<u8, Fault>
-where
-    O: Opener,
-    I: Read,
-    W: Write,
     ensures { IfOk result (λ status. status ≡ 0) }
 {
     let trace = trace_of(alloc, Input::new("image --list", words.file), files, input)?;
+    judge_places(&trace, words)?;
     match words.out {
-        Some(name) => list_to_file(alloc, files, &trace, words, name)?,
+        Some(name) => write_file(alloc, files, name, words.file.unwrap_or(""), |file| {
+            list(alloc, &trace, words, name, file)
+        })?,
         None => list(alloc, &trace, words, "the answer", out)?,
     }
     Ok(0)
-}
-
-// Writes the list to the named file; what was written in part is removed.
-fn list_to_file<O: Opener>(
-    alloc: Global,
-    files: &O,
-    trace: &Trace,
-    words: &ListWords<'_>,
-    name: &str,
-) -> Result<(), Fault> {
-    judge_places(trace, words)?;
-    let mut file = match files.create(name, words.file.unwrap_or("")) {
-        Ok(file) => file,
-        Err(error) => return Err(create_fault(alloc, name, error)),
-    };
-    match list(alloc, trace, words, name, &mut file) {
-        Ok(()) => Ok(()),
-        Err(fault) => {
-            files.remove(name);
-            Err(fault)
-        }
-    }
 }
 
 // That no place lies past the end.
@@ -88,7 +65,6 @@ fn list<W: Write>(
     output: &str,
     out: &mut W,
 ) -> Result<(), Fault> {
-    judge_places(trace, words)?;
     let mut lister = Lister {
         out,
         output,

@@ -19,17 +19,13 @@ use std::io::{Read, Write};
 ///
 /// # Errors
 /// The fault of the labels, of the trace, of an assertion that does not fail or a store that is safe in time, or of the write. Files that were written are removed.
-pub fn run_slice<O, I, W>(
+pub fn run_slice<O: Opener, I: Read, W: Write>(
     alloc: Global,
     words: &SliceWords<'_>,
     files: &O,
     input: &mut I,
     out: &mut W,
 ) -> Result<u8, Fault>
-where
-    O: Opener,
-    I: Read,
-    W: Write,
     ensures { IfOk result (λ status. status ≡ 0) }
 {
     let labels = labels_of(alloc, files, words.labels)?;
@@ -81,31 +77,16 @@ fn write_beside<O: Opener>(
     labels: &Labels,
 ) -> Result<(), Fault> {
     let mut outputs = Vec::with_capacity(alloc, 3)?;
-    add_output(alloc, &mut outputs, name, "", text)?;
+    outputs.push(Output::new(alloc, name, "", text)?)?;
     let told = numbers_text(alloc, numbers)?;
-    add_output(alloc, &mut outputs, name, ".numbers", told)?;
+    outputs.push(Output::new(alloc, name, ".numbers", told)?)?;
     if words.labels.is_some() {
         let named = labels_text(alloc, numbers, labels)?;
-        add_output(alloc, &mut outputs, name, ".labels", named)?;
+        outputs.push(Output::new(alloc, name, ".labels", named)?)?;
     }
     check_apart(alloc, files, outputs.as_slice(), words.file)?;
     check_apart(alloc, files, outputs.as_slice(), words.labels)?;
     write_outputs(alloc, files, outputs.as_slice())
-}
-
-// Adds the file whose name ends so to those that are written.
-fn add_output(
-    alloc: Global,
-    outputs: &mut Vec<Output>,
-    name: &str,
-    ending: &str,
-    text: Vec<u8>,
-) -> Result<(), Fault> {
-    let output = Output::new(alloc, name, ending, text)?;
-    match outputs.push(output) {
-        Ok(()) => Ok(()),
-        Err(_) => Err(Fault::OutOfMemory),
-    }
 }
 
 // The number that each event of the slice has in the whole trace, a line each.

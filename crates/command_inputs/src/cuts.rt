@@ -8,10 +8,12 @@ use crate::refused::{Wrong, refused_line, split_line};
 use pmt_asked::Cut;
 use pmt_text::fields::split_field;
 use pmt_text::number::read_number;
-use std::alloc::{AllocError, Global};
+use std::alloc::Global;
 use std::io::ErrorKind;
 
-// What stands there.
+// What is told of another line, and what stands there.
+const WRONG: &str = "the line does not say where the trace was cut";
+
 const ALLOWED: &str =
     "a trace that was cut has one line 'EVENT WHY' beside it, as '1000000 a trace has at most 1000000 events'";
 
@@ -74,7 +76,7 @@ fn read_cut(alloc: Global, name: &str, text: &[u8]) -> Result<Cut, Fault> {
             event: if event == 0 { None } else { Some(event) },
             why: String::from_str(alloc, why)?,
         }),
-        None => Err(refused(alloc, name, line)?),
+        None => Err(refused_line(alloc, name, 1, line, Wrong::new(alloc, WRONG, ALLOWED))),
     }
 }
 
@@ -86,14 +88,4 @@ fn judged(line: &[u8]) -> Option<(u64, &str)> {
         Ok(why) if !has_control(why.as_bytes()) => Some((event, why)),
         _ => None,
     }
-}
-
-// The fault of the line that is refused.
-fn refused(alloc: Global, name: &str, line: &[u8]) -> Result<Fault, AllocError> {
-    let wrong = Wrong::new(
-        alloc,
-        "the line does not say where the trace was cut",
-        ALLOWED,
-    )?;
-    refused_line(alloc, name, 1, line, &wrong)
 }

@@ -1,25 +1,17 @@
 //! Why a line of a trace or a script is refused, for a person: which field is wrong, and what is allowed there.
 
 use crate::forms::{Grammar, Role};
-use crate::refused::{Wrong, shown};
+use crate::refused::Wrong;
 use pmt_text::TextKind;
 use pmt_text::fields::split_field;
 use pmt_text::word::Word;
-use std::alloc::{AllocError, Global};
+use std::alloc::Global;
 
 const HEADER: &str =
     "the first line is 'pmtrace 1', or 'pmtrace 2 S' where S, the size of a cache line in bytes, is 32, 64, 128 or 256";
 
 /// What is wrong with the line that was refused for this.
-///
-/// # Errors
-/// `OutOfMemory`.
-pub(crate) fn diagnosed(
-    alloc: Global,
-    grammar: &Grammar,
-    line: &[u8],
-    kind: TextKind,
-) -> Result<Wrong, AllocError> {
+pub(crate) fn diagnosed(alloc: Global, grammar: &Grammar, line: &[u8], kind: TextKind) -> Wrong {
     match kind {
         TextKind::Truncated if line.is_empty() => Wrong::new(alloc, "the input is empty", HEADER),
         TextKind::Truncated => Wrong::new(alloc, "the line does not end", ending(grammar)),
@@ -51,7 +43,7 @@ fn ending(grammar: &Grammar) -> &'static str {
 }
 
 // The word that is none of the version, and what the words are.
-fn bad_word(alloc: Global, grammar: &Grammar, line: &[u8]) -> Result<Wrong, AllocError> {
+fn bad_word(alloc: Global, grammar: &Grammar, line: &[u8]) -> Wrong {
     let (word, _) = split_field(line);
     if word.is_empty() {
         return Wrong::new(
@@ -60,17 +52,13 @@ fn bad_word(alloc: Global, grammar: &Grammar, line: &[u8]) -> Result<Wrong, Allo
             "there are no empty lines and no comments, and a line begins with the word of its event",
         );
     }
-    Ok(Wrong {
-        what: no_event(alloc, word)?,
-        allowed: known_words(grammar, word),
-    })
-}
-
-// What is told of a word that is no event.
-fn no_event(alloc: Global, word: &[u8]) -> Result<String, AllocError> {
-    let shown = shown(alloc, word)?;
-    let shown = shown.as_str();
-    format!(in alloc; "'{shown}' is no event here")
+    Wrong::of_field(
+        alloc,
+        "",
+        word,
+        "is no event here",
+        known_words(grammar, word),
+    )
 }
 
 // The words of the version, or what to do where the word is one of the second version.
@@ -86,12 +74,7 @@ fn known_words(grammar: &Grammar, word: &[u8]) -> &'static str {
 }
 
 // The first field that is wrong, by its range or else by its spelling, or that is missing or one too many.
-fn wrong_field(
-    alloc: Global,
-    grammar: &Grammar,
-    line: &[u8],
-    by_range: bool,
-) -> Result<Wrong, AllocError> {
+fn wrong_field(alloc: Global, grammar: &Grammar, line: &[u8], by_range: bool) -> Wrong {
     let (first, mut rest) = split_field(line);
     let Some(word) = grammar.word(first) else {
         return bad_word(alloc, grammar, line);
@@ -123,23 +106,15 @@ fn wrong_field(
 }
 
 // The field that is missing, and the form of the event.
-fn missing(alloc: Global, grammar: &Grammar, role: Role, word: Word) -> Result<Wrong, AllocError> {
+fn missing(alloc: Global, grammar: &Grammar, role: Role, word: Word) -> Wrong {
     let name = role.name();
-    let what = format!(in alloc; "the {name} is missing")?;
-    Ok(Wrong {
-        what,
+    Wrong {
+        what: format!(in alloc; "{name}is missing"),
         allowed: grammar.form(word),
-    })
+    }
 }
 
 // The field that is wrong, how it is, and what is allowed there.
-fn wrong(alloc: Global, role: Role, field: &[u8], how: &str) -> Result<Wrong, AllocError> {
-    let name = role.name();
-    let shown = shown(alloc, field)?;
-    let shown = shown.as_str();
-    let what = format!(in alloc; "the {name} '{shown}' {how}")?;
-    Ok(Wrong {
-        what,
-        allowed: role.allowed(),
-    })
+fn wrong(alloc: Global, role: Role, field: &[u8], how: &str) -> Wrong {
+    Wrong::of_field(alloc, role.name(), field, how, role.allowed())
 }

@@ -2,10 +2,9 @@
 ghost use Rattle.std.specs.Prelude.{◌≡◌, ◌≤◌};
 ghost use Rattle.command_inputs.specs.Faults.{IsToldAs, fault_status};
 
-use crate::opener::OpenError;
 use pmt_model::OutOfMemory;
 use pmt_report::{RecordFault, RunError, fault_text};
-use std::alloc::{AllocError, Global};
+use std::alloc::{AllocError, AllocFailed, Global};
 use std::io::Write;
 
 /// Why the program did not do what its words ask for.
@@ -37,12 +36,9 @@ impl From<AllocError> for Fault {
     }
 }
 
-impl From<OpenError> for Fault {
-    fn from(error: OpenError) -> Fault {
-        match error {
-            OpenError::System(_) => Fault::File,
-            OpenError::OutOfMemory => Fault::OutOfMemory,
-        }
+impl<T: Drop> From<AllocFailed<T>> for Fault {
+    fn from(_error: AllocFailed<T>) -> Fault {
+        Fault::OutOfMemory
     }
 }
 
@@ -60,6 +56,14 @@ impl Fault {
     pub fn usage_of(alloc: Global, message: Result<String, OutOfMemory>) -> Fault {
         match message {
             Ok(message) => Fault::usage(alloc, message.as_str()),
+            Err(_) => Fault::OutOfMemory,
+        }
+    }
+
+    /// The fault of an input that is refused, which says this; `OutOfMemory` where memory was refused to it.
+    pub fn refused(text: Result<String, OutOfMemory>) -> Fault {
+        match text {
+            Ok(text) => Fault::Refused(text),
             Err(_) => Fault::OutOfMemory,
         }
     }

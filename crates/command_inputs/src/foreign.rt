@@ -97,21 +97,17 @@ pub(crate) fn foreign_of(first: &[u8]) -> Option<Foreign> {
 }
 
 /// The fault of an input that is this: `NAME:1: WHAT`, and a hint with the command that does what it wants.
-///
-/// # Errors
-/// `OutOfMemory`.
-pub(crate) fn foreign_fault(
-    alloc: Global,
-    input: Input<'_>,
-    foreign: Foreign,
-) -> Result<Fault, AllocError> {
+pub(crate) fn foreign_fault(alloc: Global, input: Input<'_>, foreign: Foreign) -> Fault {
+    Fault::refused(foreign_text(alloc, input, foreign))
+}
+
+fn foreign_text(alloc: Global, input: Input<'_>, foreign: Foreign) -> Result<String, AllocError> {
     let name = input.name();
     let what = foreign.what();
     let advice = foreign.advice();
     let command = command_for(alloc, input, foreign)?;
     let command = command.as_str();
-    let text = format!(in alloc; "{name}:1: {what}\nhint: {advice}: {command}\n")?;
-    Ok(Fault::Refused(text))
+    format!(in alloc; "{name}:1: {what}\nhint: {advice}: {command}\n")
 }
 
 // The command that does what such an input wants.

@@ -55,13 +55,13 @@ pub(crate) enum Role {
 }
 
 impl Role {
-    // What a person calls it.
+    // What a person calls it, before what is said of it.
     pub(crate) fn name(self) -> &'static str {
         match self {
-            Role::Thread => "thread",
-            Role::Address => "address",
-            Role::Bytes => "byte string",
-            Role::Length => "length",
+            Role::Thread => "the thread ",
+            Role::Address => "the address ",
+            Role::Bytes => "the byte string ",
+            Role::Length => "the length ",
         }
     }
 

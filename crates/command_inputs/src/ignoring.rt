@@ -56,16 +56,16 @@ pub fn read_ignored(
             break;
         }
         let Some((line, later)) = split_line(rest) else {
-            let wrong = Wrong::new(alloc, "the line does not end", ENDS)?;
-            return Err(refused_line(alloc, name, number, rest, &wrong)?);
+            let wrong = Wrong::new(alloc, "the line does not end", ENDS);
+            return Err(refused_line(alloc, name, number, rest, wrong));
         };
         if !add_line(alloc, ignored, line)? {
             let wrong = Wrong::new(
                 alloc,
                 "this is no range of bytes and no label",
                 ALLOWED_LINE,
-            )?;
-            return Err(refused_line(alloc, name, number, line, &wrong)?);
+            );
+            return Err(refused_line(alloc, name, number, line, wrong));
         }
         rest = later;
     }

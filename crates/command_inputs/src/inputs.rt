@@ -13,7 +13,7 @@ use crate::input::Input;
 use crate::labels::read_labels;
 use crate::opener::{OpenError, Opener};
 use crate::reading::{read_whole, system_fault};
-use crate::reasons::untaken_fault;
+use crate::reasons::untaken;
 use crate::recalling::Recalls;
 use crate::refused::{line_of_text, refused_line};
 use pmt_asked::Labels;
@@ -21,7 +21,7 @@ use pmt_model::Trace;
 use pmt_taking::take_trace;
 use pmt_text::header::judge_header;
 use pmt_text::{TextError, TextSource};
-use std::alloc::{AllocError, Global};
+use std::alloc::Global;
 use std::io::Read;
 
 /// The trace of the file or of `reader`.
@@ -53,10 +53,7 @@ fn read_trace<R: Read + Drop>(alloc: Global, input: Input<'_>, reader: R) -> Res
     let mut source = TextSource::new(alloc, reader);
     match take_trace(alloc, &mut source) {
         Ok(trace) => Ok(trace),
-        Err(error) => {
-            let reader = source.into_input().into_inner();
-            Err(untaken_fault(alloc, input, error, reader.memory()))
-        }
+        Err(error) => Err(untaken(alloc, input, error, source)),
     }
 }
 
@@ -104,14 +101,6 @@ pub fn open_fault(alloc: Global, name: &str, error: OpenError) -> Fault {
     }
 }
 
-/// The fault of a named file that was not created.
-pub fn create_fault(alloc: Global, name: &str, error: OpenError) -> Fault {
-    match error {
-        OpenError::System(error) => system_fault(alloc, "cannot create", name, error),
-        OpenError::OutOfMemory => Fault::OutOfMemory,
-    }
-}
-
 /// The fault of the input's line that is refused, where this text is the header and a piece of the input that has so many lines before it,
 /// beside the header.
 pub fn piece_fault(
@@ -127,28 +116,25 @@ pub fn piece_fault(
         line: fault.line.saturating_add(before),
         kind: fault.kind,
     };
-    refused_text(alloc, input, &grammar, line, whole).unwrap_or(Fault::OutOfMemory)
+    refused_text(alloc, input, &grammar, line, whole)
 }
 
 /// The fault of this line of the input, which was refused for this: what it is in place of a trace or a script, or else the place, the
-/// text, what is wrong with it, and what is allowed there.
-///
-/// # Errors
-/// `OutOfMemory`.
+/// text, what is wrong with it, and what is allowed there. `OutOfMemory` where memory was refused to it.
 pub(crate) fn refused_text(
     alloc: Global,
     input: Input<'_>,
     grammar: &Grammar,
     line: &[u8],
     fault: TextError,
-) -> Result<Fault, AllocError> {
+) -> Fault {
     if fault.line == 1 {
         if let Some(foreign) = foreign_to(grammar, line) {
             return foreign_fault(alloc, input, foreign);
         }
     }
-    let wrong = diagnosed(alloc, grammar, line, fault.kind)?;
-    refused_line(alloc, input.name(), fault.line, line, &wrong)
+    let wrong = diagnosed(alloc, grammar, line, fault.kind);
+    refused_line(alloc, input.name(), fault.line, line, wrong)
 }
 
 // What an input with this first line is in place of what it is meant to be, if that is known.
@@ -159,14 +145,10 @@ fn foreign_to(grammar: &Grammar, first: &[u8]) -> Option<Foreign> {
     }
 }
 
-/// The fault of an input with more bytes than are judged.
-///
-/// # Errors
-/// `OutOfMemory`.
-pub(crate) fn too_long(alloc: Global, input: Input<'_>) -> Result<Fault, AllocError> {
+/// The fault of an input with more bytes than are judged. `OutOfMemory` where memory was refused to it.
+pub(crate) fn too_long(alloc: Global, input: Input<'_>) -> Fault {
     let name = input.name();
-    let line = format!(in alloc;
+    Fault::refused(format!(in alloc;
         "{name}: the trace is too long: it has more than 67108864 bytes\n"
-    )?;
-    Ok(Fault::Refused(line))
+    ))
 }

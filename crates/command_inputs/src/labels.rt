@@ -4,84 +4,28 @@ use crate::buffering::buffered;
 use crate::bytes::has_control;
 use crate::fault::Fault;
 use crate::reading::system_fault;
-use crate::refused::{Wrong, refused_line, shown, split_line};
+use crate::refused::{Wrong, refused_line, split_line};
 use pmt_asked::Labels;
 use pmt_text::fields::split_field;
 use pmt_text::number::read_number;
-use std::alloc::{AllocError, Global};
+use std::alloc::Global;
 use std::io::{BufRead, Read};
 
 // The most bytes of a line that are read, with its LF.
 const MOST_BYTES: u64 = 1_048_576;
 
-// Why a line of a labels file is refused.
-#[derive(Clone, Copy)]
-enum LabelError<'a> {
-    // It does not end.
-    Truncated,
-    // It has more bytes than are read.
-    Long,
-    // This field is no number of an event of a trace.
-    Event(&'a [u8]),
-    // This field is no number of an event, however many there are.
-    Number(&'a [u8]),
-    // Its number does not come after this one.
-    Order(u64),
-    // No text follows.
-    NoText,
-    // The text has bytes that are not shown.
-    Text,
-}
+// Events of a trace have numbers up to this one.
+const LAST_EVENT: u64 = 1_000_000;
 
-impl LabelError<'_> {
-    // What is wrong, and what is allowed there.
-    fn wrong(self, alloc: Global) -> Result<Wrong, AllocError> {
-        match self {
-            LabelError::Truncated => Wrong::new(
-                alloc,
-                "the line does not end",
-                "each line ends with LF, the last one too; the file may have been cut off here",
-            ),
-            LabelError::Long => Wrong::new(
-                alloc,
-                "the line is too long",
-                "a line of a labels file has at most 1048576 bytes, with its LF",
-            ),
-            LabelError::Event(field) => {
-                let shown = shown(alloc, field)?;
-                let shown = shown.as_str();
-                Ok(Wrong {
-                    what: format!(in alloc; "'{shown}' is no number of an event")?,
-                    allowed: "a label is 'EVENT TEXT': a decimal number from 1 to 1000000 without leading zeros, a space and a text",
-                })
-            }
-            LabelError::Number(field) => {
-                let shown = shown(alloc, field)?;
-                let shown = shown.as_str();
-                Ok(Wrong {
-                    what: format!(in alloc; "'{shown}' is no number of an event")?,
-                    allowed: "a label is 'EVENT TEXT': a decimal number from 1 without leading zeros, a space and a text",
-                })
-            }
-            LabelError::Order(before) => Ok(Wrong {
-                what: format!(in alloc;
-                    "the number does not come after {before}, that of the line before"
-                )?,
-                allowed: "the labels stand by rising number of their events, one line for an event",
-            }),
-            LabelError::NoText => Wrong::new(
-                alloc,
-                "the label has no text",
-                "a label is 'EVENT TEXT', as '12 list.c:57 insert'",
-            ),
-            LabelError::Text => Wrong::new(
-                alloc,
-                "the text of the label has bytes that can not be shown",
-                "a text is UTF-8 without control characters",
-            ),
-        }
-    }
-}
+const ENDS: &str = "each line ends with LF, the last one too; the file may have been cut off here";
+
+const EVENT_OF_TRACE: &str =
+    "a label is 'EVENT TEXT': a decimal number from 1 to 1000000 without leading zeros, a space and a text";
+
+const EVENT: &str =
+    "a label is 'EVENT TEXT': a decimal number from 1 without leading zeros, a space and a text";
+
+const RISING: &str = "the labels stand by rising number of their events, one line for an event";
 
 /// The labels of a file with this name, which the reader gives: lines `EVENT TEXT` by rising number of the event.
 ///
@@ -126,24 +70,24 @@ fn take_line(
     before: u64,
 ) -> Result<u64, Fault> {
     let Some((text, _)) = split_line(line) else {
-        return Err(refused(alloc, name, number, line, unended(line)));
+        return Err(refused_line(alloc, name, number, line, unended(alloc, line)));
     };
-    match trace_label(text, before) {
+    match label_in(alloc, text, before, LAST_EVENT) {
         Ok((event, label)) => {
             labels.insert(alloc, event, label)?;
             Ok(event)
         }
-        Err(error) => Err(refused(alloc, name, number, text, error)),
+        Err(wrong) => Err(refused_line(alloc, name, number, text, wrong)),
     }
 }
 
-// Why a line without LF is refused.
-fn unended(line: &[u8]) -> LabelError<'_> {
+// What is wrong with a line without LF.
+fn unended(alloc: Global, line: &[u8]) -> Wrong {
     if (line.len() as u64) < MOST_BYTES {
-        LabelError::Truncated
-    } else {
-        LabelError::Long
+        return Wrong::new(alloc, "the line does not end", ENDS);
     }
+    let allowed = "a line of a labels file has at most 1048576 bytes, with its LF";
+    Wrong::new(alloc, "the line is too long", allowed)
 }
 
 /// The event and the text of this line of a labels file, whose number, from 1, comes after this one. There may be any number of events.
@@ -157,59 +101,47 @@ pub fn label_of<'a>(
     line: &'a [u8],
     before: u64,
 ) -> Result<(u64, &'a str), Fault> {
-    let Some((line, _)) = split_line(line) else {
-        return Err(refused(alloc, name, number, line, LabelError::Truncated));
+    let Some((text, _)) = split_line(line) else {
+        let wrong = Wrong::new(alloc, "the line does not end", ENDS);
+        return Err(refused_line(alloc, name, number, line, wrong));
     };
-    match label_in(line, before) {
+    match label_in(alloc, text, before, u64::MAX) {
         Ok((event, label)) => Ok((event, label)),
-        Err(error) => Err(refused(alloc, name, number, line, error)),
+        Err(wrong) => Err(refused_line(alloc, name, number, text, wrong)),
     }
 }
 
-// The event and the text of a line, which is of an event of a trace.
-fn trace_label(line: &[u8], before: u64) -> Result<(u64, &str), LabelError<'_>> {
+// The event of a line, which comes after this one and is not greater than the last one, and its text; or what is wrong with them.
+fn label_in(alloc: Global, line: &[u8], before: u64, last: u64) -> Result<(u64, &str), Wrong> {
     let (field, rest) = split_field(line);
-    match read_number(10, field) {
-        Some(event) if event >= 1 && event <= 1_000_000 => label_text(event, rest, before),
-        _ => Err(LabelError::Event(field)),
+    let event = read_number(10, field).unwrap_or(0);
+    if event == 0 || event > last {
+        let allowed = if last == LAST_EVENT {
+            EVENT_OF_TRACE
+        } else {
+            EVENT
+        };
+        return Err(Wrong::of_field(alloc, "", field, "is no number of an event", allowed));
     }
-}
-
-// The event and the text of a line, of an event of any number.
-fn label_in(line: &[u8], before: u64) -> Result<(u64, &str), LabelError<'_>> {
-    let (field, rest) = split_field(line);
-    match read_number(10, field) {
-        Some(event) if event >= 1 => label_text(event, rest, before),
-        _ => Err(LabelError::Number(field)),
-    }
-}
-
-// The event with the text that follows it, where its number comes after this one.
-fn label_text(event: u64, rest: Option<&[u8]>, before: u64) -> Result<(u64, &str), LabelError<'_>> {
     if event <= before {
-        return Err(LabelError::Order(before));
+        return Err(Wrong {
+            what: format!(in alloc;
+                "the number does not come after {before}, that of the line before"
+            ),
+            allowed: RISING,
+        });
     }
-    match rest {
-        Some(bytes) if !bytes.is_empty() => match str::from_utf8(bytes) {
-            Ok(label) if !has_control(bytes) => Ok((event, label)),
-            _ => Err(LabelError::Text),
-        },
-        _ => Err(LabelError::NoText),
+    let bytes = rest.unwrap_or(b"");
+    if bytes.is_empty() {
+        let allowed = "a label is 'EVENT TEXT', as '12 list.c:57 insert'";
+        return Err(Wrong::new(alloc, "the label has no text", allowed));
     }
-}
-
-// The fault of the line that is refused.
-fn refused(alloc: Global, name: &str, number: u64, line: &[u8], error: LabelError<'_>) -> Fault {
-    shown_refused(alloc, name, number, line, error).unwrap_or(Fault::OutOfMemory)
-}
-
-fn shown_refused(
-    alloc: Global,
-    name: &str,
-    number: u64,
-    line: &[u8],
-    error: LabelError<'_>,
-) -> Result<Fault, AllocError> {
-    let wrong = error.wrong(alloc)?;
-    refused_line(alloc, name, number, line, &wrong)
+    match str::from_utf8(bytes) {
+        Ok(label) if !has_control(bytes) => Ok((event, label)),
+        _ => Err(Wrong::new(
+            alloc,
+            "the text of the label has bytes that can not be shown",
+            "a text is UTF-8 without control characters",
+        )),
+    }
 }

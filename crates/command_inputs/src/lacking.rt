@@ -122,8 +122,8 @@ fn add_missing(alloc: Global, name: &str, text: &[u8], lacking: &mut Lacking) ->
             None => (rest, b"".as_slice()),
         };
         let Some((kind, count, what)) = judged(line) else {
-            let wrong = Wrong::new(alloc, "the line does not say what is missing", ALLOWED)?;
-            return Err(refused_line(alloc, name, number, line, &wrong)?);
+            let wrong = Wrong::new(alloc, "the line does not say what is missing", ALLOWED);
+            return Err(refused_line(alloc, name, number, line, wrong));
         };
         has_bytes = has_bytes || kind == "bytes";
         has_fences = has_fences || kind == "fences";

@@ -33,19 +33,17 @@ pub use crate::cuts::{cut_of, read_standing};
 pub use crate::fault::{Fault, no_failure};
 pub use crate::ignoring::{asked_place, read_ignored};
 pub use crate::input::{Input, STANDARD_INPUT};
-pub use crate::inputs::{
-    create_fault, labels_of, open_fault, opened, piece_fault, read_file, trace_of,
-};
+pub use crate::inputs::{labels_of, open_fault, opened, piece_fault, read_file, trace_of};
 pub use crate::labels::label_of;
 pub use crate::lacking::{Lacked, Lacking, lacking_of};
 pub use crate::opener::{OpenError, Opener, SystemFiles};
 pub use crate::origin::read_origin;
-pub use crate::outputs::{Output, check_apart, remove_all, write_named, write_outputs};
-pub use crate::ranges::asked_range;
+pub use crate::outputs::{Output, check_apart, remove_all, write_file, write_named, write_outputs};
+pub use crate::ranges::range_in;
 pub use crate::reading::{reason, system_fault};
-pub use crate::reasons::{open_input, reasoned, untaken_fault, write_output};
+pub use crate::reasons::{open_input, reasoned, untaken, untaken_fault, write_output};
 pub use crate::recalling::{Memory, Recalling, Recalls, counted, uncounted};
-pub use crate::refused::{Wrong, refused_line, shown, split_line};
+pub use crate::refused::split_line;
 pub use crate::shell::shell_word;
 pub use crate::source_text::shown_source;
 pub use crate::sources::{Places, SourceFolder, SourceText, Wanted};

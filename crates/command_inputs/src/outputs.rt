@@ -1,8 +1,7 @@
 //! The files that are written: all of them, or none.
 
 use crate::fault::Fault;
-use crate::inputs::create_fault;
-use crate::opener::Opener;
+use crate::opener::{OpenError, Opener};
 use crate::reading::system_fault;
 use crate::writing::write_answer;
 use std::alloc::Global;
@@ -70,10 +69,7 @@ pub fn write_named<O: Opener, W: Write>(
         return write_answer(alloc, answer.as_slice(), out);
     };
     let mut outputs = Vec::with_capacity(alloc, 1)?;
-    let output = Output::new(alloc, name, "", answer)?;
-    if outputs.push(output).is_err() {
-        return Err(Fault::OutOfMemory);
-    }
+    outputs.push(Output::new(alloc, name, "", answer)?)?;
     for input in read {
         check_apart(alloc, files, outputs.as_slice(), *input)?;
     }
@@ -97,10 +93,7 @@ pub fn write_outputs<O: Opener>(alloc: Global, files: &O, outputs: &[Output]) ->
 // Writes the file; what was written in part is removed.
 fn write_output<O: Opener>(alloc: Global, files: &O, output: &Output) -> Result<(), Fault> {
     let name = output.name.as_str();
-    let mut file = match files.create(name, "") {
-        Ok(file) => file,
-        Err(error) => return Err(create_fault(alloc, name, error)),
-    };
+    let mut file = created(alloc, files, name, "")?;
     let written = match file.write_all(output.text.as_slice()) {
         Ok(()) => file.flush(),
         Err(error) => Err(error),
@@ -111,6 +104,41 @@ fn write_output<O: Opener>(alloc: Global, files: &O, output: &Output) -> Result<
             files.remove(name);
             Err(system_fault(alloc, "cannot write", name, error))
         }
+    }
+}
+
+/// Writes the file with this name, which is not the other one, by `write`; what was written in part is removed.
+///
+/// # Errors
+/// A fault that names the file and says why it can't be created, or that of `write`; `OutOfMemory`.
+pub fn write_file<O: Opener, F: FnOnce(&mut O::Writer) -> Result<(), Fault>>(
+    alloc: Global,
+    files: &O,
+    name: &str,
+    other: &str,
+    write: F,
+) -> Result<(), Fault>
+    requires { F.IsAlwaysCallable write }
+{
+    let mut file = created(alloc, files, name, other)?;
+    let written = write(&mut file);
+    if written.is_err() {
+        files.remove(name);
+    }
+    written
+}
+
+// The writer of the file with this name, which is not the other one.
+fn created<O: Opener>(
+    alloc: Global,
+    files: &O,
+    name: &str,
+    other: &str,
+) -> Result<O::Writer, Fault> {
+    match files.create(name, other) {
+        Ok(file) => Ok(file),
+        Err(OpenError::System(error)) => Err(system_fault(alloc, "cannot create", name, error)),
+        Err(OpenError::OutOfMemory) => Err(Fault::OutOfMemory),
     }
 }
 

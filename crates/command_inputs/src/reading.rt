@@ -18,18 +18,17 @@ pub(crate) fn read_whole<R: Read + Drop>(
 ) -> Result<Vec<u8>, Fault> {
     let mut bytes = Vec::new(alloc);
     match reader.take(BYTE_LIMIT + 1).read_to_end(&mut bytes) {
-        Ok(count) if count as u64 > BYTE_LIMIT => Err(too_long(alloc, name)?),
+        Ok(count) if count as u64 > BYTE_LIMIT => Err(too_long(alloc, name)),
         Ok(_) => Ok(bytes),
         Err(error) => Err(system_fault(alloc, "cannot read", name, error)),
     }
 }
 
 // The fault of a file with more bytes than are read.
-fn too_long(alloc: Global, name: &str) -> Result<Fault, AllocError> {
-    let line = format!(in alloc;
+fn too_long(alloc: Global, name: &str) -> Fault {
+    Fault::refused(format!(in alloc;
         "{name}: the file is too long: it has more than {BYTE_LIMIT} bytes\n"
-    )?;
-    Ok(Fault::Refused(line))
+    ))
 }
 
 /// The fault that says what could not be done with what, and the system's reason; `OutOfMemory` where that is the reason, or memory is

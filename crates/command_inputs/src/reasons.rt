@@ -9,13 +9,13 @@ use crate::input::Input;
 use crate::inputs::{open_fault, refused_text, too_long};
 use crate::opener::{OpenError, Opener};
 use crate::reading::try_system_fault;
-use crate::recalling::{Memory, Recalls, counted, uncounted};
+use crate::recalling::{Memory, Recalling, Recalls, counted, uncounted};
 use crate::writing::write_whole;
 use pmt_report::{RecordFault, RunError, run_error};
 use pmt_taking::TakeError;
-use pmt_text::TextError;
+use pmt_text::{TextError, TextSource};
 use std::alloc::{AllocError, Global};
-use std::io::{self, Write};
+use std::io::{self, Read, Write};
 
 /// The fault, with the reason below its line where the devices recall it.
 pub fn reasoned(
@@ -27,14 +27,22 @@ pub fn reasoned(
 ) -> Fault
     ensures { IsToldAs (fault_status fault) (fault_status result) }
 {
-    let reason = match reason_of(alloc, &fault, input, read, written) {
-        Ok(reason) => reason,
-        Err(_) => return Fault::OutOfMemory,
-    };
-    match reason {
-        Some(reason) => fault.with_reason(alloc, &reason),
-        None => fault,
+    match reason_of(alloc, &fault, input, read, written) {
+        Ok(Some(reason)) => fault.with_reason(alloc, &reason),
+        Ok(None) => fault,
+        Err(_) => Fault::OutOfMemory,
     }
+}
+
+/// As `untaken_fault`, of the source of the events.
+pub fn untaken<R: Read + Drop>(
+    alloc: Global,
+    input: Input<'_>,
+    error: TakeError,
+    source: TextSource<Recalling<R>>,
+) -> Fault {
+    let reader = source.into_input().into_inner();
+    untaken_fault(alloc, input, error, reader.memory())
 }
 
 /// The fault of the input whose events were not taken for this, by what its reader recalls: of a refused line its place, its text, and what
@@ -65,68 +73,58 @@ fn reason_of(
     written: Option<&Memory>,
 ) -> Result<Option<Fault>, AllocError> {
     match fault {
-        Fault::Run(RunError::Text(error)) => refused_trace(alloc, input, read, *error),
-        Fault::Run(RunError::TooMany) if read.is_some() => Ok(Some(too_long(alloc, input)?)),
-        Fault::Run(RunError::Read) => unread(alloc, input, read),
-        Fault::Run(RunError::Write { written: _ }) => unwritten(alloc, written),
+        Fault::Run(RunError::Text(error)) => refused(alloc, input, read, false, *error),
         Fault::Record(RecordFault::Line { script: _, error }) => {
-            refused_script(alloc, input, read, *error)
+            refused(alloc, input, read, true, *error)
         }
-        Fault::Record(RecordFault::TooLong { script: _ }) if read.is_some() => {
-            Ok(Some(too_long(alloc, input)?))
+        Fault::Run(RunError::TooMany) | Fault::Record(RecordFault::TooLong { script: _ })
+            if read.is_some() => { made(too_long(alloc, input)) }
+        Fault::Run(RunError::Read) => failed(alloc, "cannot read", input.name(), read),
+        Fault::File if read.is_some() => failed(alloc, "cannot read", input.name(), read),
+        Fault::Run(RunError::Write { written: _ }) | Fault::File => {
+            failed(alloc, "cannot write", "the answer", written)
         }
-        Fault::File if read.is_some() => unread(alloc, input, read),
-        Fault::File => unwritten(alloc, written),
         _ => Ok(None),
     }
 }
 
-// What is told of a trace's line.
-fn refused_trace(
+// What is told of the line of a trace or a script.
+fn refused(
     alloc: Global,
     input: Input<'_>,
     read: Option<&Memory>,
+    is_script: bool,
     error: TextError,
 ) -> Result<Option<Fault>, AllocError> {
     let Some(memory) = read else {
         return Ok(None);
     };
-    let grammar = Grammar::of_trace(memory.first_line());
-    let line = memory.line(error.line)?;
-    Ok(Some(refused_text(alloc, input, &grammar, line, error)?))
-}
-
-// What is told of a script's line.
-fn refused_script(
-    alloc: Global,
-    input: Input<'_>,
-    read: Option<&Memory>,
-    error: TextError,
-) -> Result<Option<Fault>, AllocError> {
-    let Some(memory) = read else {
-        return Ok(None);
+    let grammar = if is_script {
+        Grammar::Script
+    } else {
+        Grammar::of_trace(memory.first_line())
     };
     let line = memory.line(error.line)?;
-    let refused = refused_text(alloc, input, &Grammar::Script, line, error)?;
-    Ok(Some(refused))
+    made(refused_text(alloc, input, &grammar, line, error))
 }
 
-// What is told of a read that failed.
-fn unread(
-    alloc: Global,
-    input: Input<'_>,
-    read: Option<&Memory>,
-) -> Result<Option<Fault>, AllocError> {
-    match error_of(read) {
-        Some(error) => Ok(Some(try_system_fault(alloc, "cannot read", input.name(), error)?)),
-        None => Ok(None),
+// The reason, where memory was there for it.
+fn made(reason: Fault) -> Result<Option<Fault>, AllocError> {
+    match reason {
+        Fault::OutOfMemory => Err(AllocError),
+        reason => Ok(Some(reason)),
     }
 }
 
-// What is told of a write that failed.
-fn unwritten(alloc: Global, written: Option<&Memory>) -> Result<Option<Fault>, AllocError> {
-    match error_of(written) {
-        Some(error) => Ok(Some(try_system_fault(alloc, "cannot write", "the answer", error)?)),
+// What is told of a call that failed of the device of which this is recalled.
+fn failed(
+    alloc: Global,
+    action: &str,
+    what: &str,
+    memory: Option<&Memory>,
+) -> Result<Option<Fault>, AllocError> {
+    match error_of(memory) {
+        Some(error) => Ok(Some(try_system_fault(alloc, action, what, error)?)),
         None => Ok(None),
     }
 }

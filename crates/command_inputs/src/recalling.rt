@@ -219,32 +219,24 @@ impl Memory {
     fn recall(&mut self, piece: &[u8]) {
         let done = match self.recalls {
             Recalls::Nothing | Recalls::Errors => Ok(()),
-            Recalls::LastLines => self.recall_last(piece),
-            Recalls::AllLines => self.recall_all(piece),
+            Recalls::LastLines => {
+                self.lines = self.ended;
+                keep_begun(&mut self.last);
+                self.recall_piece(piece)
+            }
+            Recalls::AllLines => self.recall_piece(piece),
         };
         if done.is_err() {
             self.is_torn = true;
         }
     }
 
-    fn recall_first(&mut self, piece: &[u8]) -> Result<(), AllocError> {
+    // Recalls it behind what was read before.
+    fn recall_piece(&mut self, piece: &[u8]) -> Result<(), AllocError> {
+        self.ended = self.ended.saturating_add(line_ends(piece));
         if self.first.len() < FIRST {
             self.first.extend_from_slice(beginning(piece, FIRST))?;
         }
-        Ok(())
-    }
-
-    fn recall_all(&mut self, piece: &[u8]) -> Result<(), AllocError> {
-        self.ended = self.ended.saturating_add(line_ends(piece));
-        self.recall_first(piece)?;
-        self.last.extend_from_slice(piece)
-    }
-
-    fn recall_last(&mut self, piece: &[u8]) -> Result<(), AllocError> {
-        self.lines = self.ended;
-        self.ended = self.ended.saturating_add(line_ends(piece));
-        self.recall_first(piece)?;
-        keep_begun(&mut self.last);
         self.last.extend_from_slice(piece)
     }
 }

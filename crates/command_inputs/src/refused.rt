@@ -13,25 +13,46 @@ const CARRIAGE_RETURN: &str =
 
 /// What is wrong with a line.
 #[derive(Drop)]
-pub struct Wrong {
-    /// What is wrong, with the field at fault.
-    pub what: String,
+pub(crate) struct Wrong {
+    /// What is wrong, with the field at fault; or that memory was refused to that.
+    pub(crate) what: Result<String, AllocError>,
     /// What is allowed there, or what to do.
-    pub allowed: &'static str,
+    pub(crate) allowed: &'static str,
 }
 
 impl Wrong {
     /// What is wrong, and what is allowed there.
-    pub fn new(alloc: Global, what: &str, allowed: &'static str) -> Result<Wrong, AllocError> {
-        Ok(Wrong {
-            what: String::from_str(alloc, what)?,
-            allowed,
-        })
+    pub(crate) fn new(alloc: Global, what: &str, allowed: &'static str) -> Self {
+        let what = String::from_str(alloc, what);
+        Wrong { what, allowed }
+    }
+
+    /// What is wrong with a field, its text between these words.
+    pub(crate) fn of_field(
+        alloc: Global,
+        before: &str,
+        field: &[u8],
+        after: &str,
+        allowed: &'static str,
+    ) -> Self {
+        let what = field_text(alloc, before, field, after);
+        Wrong { what, allowed }
     }
 }
 
+fn field_text(
+    alloc: Global,
+    before: &str,
+    field: &[u8],
+    after: &str,
+) -> Result<String, AllocError> {
+    let shown = shown(alloc, field)?;
+    let shown = shown.as_str();
+    format!(in alloc; "{before}'{shown}' {after}")
+}
+
 /// The line with this number, from 1, without its LF. Empty where there is none.
-pub fn line_of_text(text: &[u8], number: u64) -> &[u8] {
+pub(crate) fn line_of_text(text: &[u8], number: u64) -> &[u8] {
     let mut rest = text;
     for _ in 1..number {
         match split_line(rest) {
@@ -51,21 +72,30 @@ pub fn split_line(text: &[u8]) -> Option<(&[u8], &[u8])> {
     Some((&text[..end], &text[end + 1..]))
 }
 
-/// The fault of a line: `NAME:LINE: WHAT`, its text, what is allowed, and a hint where lines end in CR LF.
-///
-/// # Errors
-/// `OutOfMemory`.
-pub fn refused_line(
+/// The fault of a line: `NAME:LINE: WHAT`, its text, what is allowed, and a hint where lines end in CR LF. `OutOfMemory` where memory is
+/// refused to it.
+pub(crate) fn refused_line(
     alloc: Global,
     name: &str,
     number: u64,
     line: &[u8],
-    wrong: &Wrong,
-) -> Result<Fault, AllocError> {
-    let what = wrong.what.as_str();
+    wrong: Wrong,
+) -> Fault {
+    Fault::refused(line_text(alloc, name, number, line, wrong))
+}
+
+fn line_text(
+    alloc: Global,
+    name: &str,
+    number: u64,
+    line: &[u8],
+    wrong: Wrong,
+) -> Result<String, AllocError> {
+    let what = wrong.what?;
+    let what = what.as_str();
     let mut text = format!(in alloc; "{name}:{number}: {what}\n")?;
     push_hints(alloc, &mut text, line, wrong.allowed)?;
-    Ok(Fault::Refused(text))
+    Ok(text)
 }
 
 // Adds the line's text, what is allowed there, and what to do where it ends in CR LF.
@@ -93,7 +123,7 @@ fn push_hints(
 ///
 /// # Errors
 /// `OutOfMemory`.
-pub fn shown(alloc: Global, line: &[u8]) -> Result<String, AllocError> {
+pub(crate) fn shown(alloc: Global, line: &[u8]) -> Result<String, AllocError> {
     let mut text = String::new(alloc);
     let mut left = SHOWN;
     for byte in line {

@@ -1,6 +1,7 @@
 //! What `explain` is asked for.
 
-use pmt_asked::Options;
+use pmt_asked::{Choice, Ignored, Kind, Options};
+use std::alloc::Global;
 
 /// In which form `explain` tells.
 #[derive(Clone, Copy)]
@@ -47,4 +48,20 @@ pub struct ExplainWords<'a> {
     pub page_limit: usize,
     /// The trace; standard input, if none is given.
     pub file: Option<&'a str>,
+}
+
+/// What is asked of an explanation where all findings of this kind matter, or of all kinds, and no entry is shown.
+pub fn options_for(alloc: Global, only: Option<Kind>) -> Options {
+    Options {
+        ignored: Ignored::new(alloc),
+        limit: 0,
+        choice: Choice {
+            only,
+            thread: None,
+            range: None,
+            from: None,
+            to: None,
+            label: None,
+        },
+    }
 }

@@ -71,12 +71,3 @@ pub struct ListWords<'a> {
     /// The trace; none for standard input.
     pub file: Option<&'a str>,
 }
-
-/// A list of crashes, or the pool of one.
-#[derive(Drop)]
-pub enum ImageRequest<'a> {
-    /// A list.
-    List(ListWords<'a>),
-    /// The pool.
-    Pool(ImageWords<'a>),
-}

@@ -10,10 +10,8 @@ mod request;
 mod slicing;
 
 pub use crate::drawing::{AskedEvents, Drawing};
-pub use crate::explaining::{Color, ExplainWords, Form};
-pub use crate::imaging::{
-    AddressStores, AskedCrash, ImageRequest, ImageWords, ListWords, PlaceRange, has_place,
-};
+pub use crate::explaining::{Color, ExplainWords, Form, options_for};
+pub use crate::imaging::{AddressStores, AskedCrash, ImageWords, ListWords, PlaceRange, has_place};
 pub use crate::measuring::StatWords;
 pub use crate::parting::PartsWords;
 pub use crate::request::{CheckWords, FrontsWords, RecordWords, Request, TraceWords};

@@ -1,7 +1,7 @@
 //! The words of the program, by clap.
 use crate::described::{CommandText, Made, command_of, with_text};
 use crate::draw_words::DRAW;
-use crate::explain_command::EXPLAIN;
+use crate::explain_words::EXPLAIN;
 use crate::image_words::IMAGE;
 use crate::parts_words::PARTS;
 use crate::plain_commands::{CHECK, FRONTS, RECORD, TRIM};
@@ -11,7 +11,7 @@ use command_requests::VERSION;
 use std::alloc::Global;
 
 // The program as its commands are described.
-const PROGRAM: CommandText<'static> = CommandText {
+static PROGRAM: CommandText<'static> = CommandText {
     name: "pmtrim",
     usage: "pmtrim < TRACE\n       pmtrim check [--labels FILE] [--limit N] [--quiet] [--out FILE] [FILE]\n       pmtrim explain [--ignore A:N].. [--limit N] [--only KIND] .. [--labels FILE [--source DIR]]\n                      [--json | --html] [--out FILE] [FILE]\n       pmtrim trim [--stream | --out FILE] [FILE]\n       pmtrim fronts [--out FILE] FILE PLACE\n       pmtrim record [--out FILE] SCRIPT..\n       pmtrim draw [--failure N | --around I | --from I --to J] [--line A].. [--labels FILE]\n                   [--out FILE] [FILE]\n       pmtrim image (--failure N | --at PLACE [--all] [--line A:K]..) [--pool BASE --origin A]\n                    [--out FILE] [FILE]\n       pmtrim image --list [--at PLACES] [--off K] [--out FILE] [FILE]\n       pmtrim slice (--failure N | --store N) [[--labels FILE] --out FILE] [FILE]\n       pmtrim stat [--labels FILE] [--json] [--out FILE] [FILE]\n       pmtrim parts [--events N] [--overlap N] [--ignore A:N].. [--labels FILE] --out PREFIX [FILE]",
     about: "Checks traces of persistent memory events, and trims the flushes and fences that no crash can{n}show. With no words it trims the trace on standard input.",
@@ -19,63 +19,18 @@ const PROGRAM: CommandText<'static> = CommandText {
     words: &[],
 };
 
-/// The words of the program and of its commands.
+/// The words of the program and of its commands, in the order of the help.
 ///
 /// # Errors
 /// Where memory was refused.
 pub fn commands<'a>(alloc: Global) -> Made<'a> {
     let mut made = program(alloc);
-    made = check(alloc, made);
-    made = explain(alloc, made);
-    made = trim(alloc, made);
-    made = fronts(alloc, made);
-    made = record(alloc, made);
-    made = draw(alloc, made);
-    made = image(alloc, made);
-    made = slice(alloc, made);
-    made = parts(alloc, made);
-    made = stat(alloc, made);
+    for text in [
+        &CHECK, &EXPLAIN, &TRIM, &FRONTS, &RECORD, &DRAW, &IMAGE, &SLICE, &PARTS, &STAT,
+    ] {
+        made = with_text(alloc, made, text);
+    }
     made
-}
-
-fn check<'a>(alloc: Global, made: Made<'a>) -> Made<'a> {
-    with_text(alloc, made, &CHECK)
-}
-
-fn explain<'a>(alloc: Global, made: Made<'a>) -> Made<'a> {
-    with_text(alloc, made, &EXPLAIN)
-}
-
-fn trim<'a>(alloc: Global, made: Made<'a>) -> Made<'a> {
-    with_text(alloc, made, &TRIM)
-}
-
-fn fronts<'a>(alloc: Global, made: Made<'a>) -> Made<'a> {
-    with_text(alloc, made, &FRONTS)
-}
-
-fn record<'a>(alloc: Global, made: Made<'a>) -> Made<'a> {
-    with_text(alloc, made, &RECORD)
-}
-
-fn draw<'a>(alloc: Global, made: Made<'a>) -> Made<'a> {
-    with_text(alloc, made, &DRAW)
-}
-
-fn image<'a>(alloc: Global, made: Made<'a>) -> Made<'a> {
-    with_text(alloc, made, &IMAGE)
-}
-
-fn slice<'a>(alloc: Global, made: Made<'a>) -> Made<'a> {
-    with_text(alloc, made, &SLICE)
-}
-
-fn parts<'a>(alloc: Global, made: Made<'a>) -> Made<'a> {
-    with_text(alloc, made, &PARTS)
-}
-
-fn stat<'a>(alloc: Global, made: Made<'a>) -> Made<'a> {
-    with_text(alloc, made, &STAT)
 }
 
 fn program<'a>(alloc: Global) -> Made<'a> {

@@ -1,4 +1,5 @@
 //! Commands as tables say them, made by clap.
+use WordKind::{Flag, Lone, Value};
 use clap::{Arg, ArgAction, Command};
 use std::alloc::{AllocError, Global};
 
@@ -17,16 +18,9 @@ pub struct CommandText<'a> {
     pub words: &'a [Word<'a>],
 }
 
-/// A word of a command: an option, or a word that stands alone.
+/// A word of a command, an option or a word that stands alone: its name, what it is, and what its help says.
 #[derive(Clone, Copy)]
-pub struct Word<'a> {
-    /// Its name.
-    pub name: &'a str,
-    /// What it is.
-    pub kind: WordKind<'a>,
-    /// What its help says.
-    pub help: &'a str,
-}
+pub struct Word<'a>(pub &'a str, pub WordKind<'a>, pub &'a str);
 
 /// What a word of a command is.
 #[derive(Clone, Copy)]
@@ -54,32 +48,32 @@ pub enum WordKind<'a> {
 }
 
 /// The file of the trace.
-pub const TRACE_FILE: Word<'static> = Word {
-    name: "FILE",
-    kind: WordKind::Lone,
-    help: "The trace; standard input, if none is given, or -",
-};
+pub const TRACE_FILE: Word<'static> = Word(
+    "FILE",
+    Lone,
+    "The trace; standard input, if none is given, or -",
+);
 
 /// The file that is written.
-pub const OUT_FILE: Word<'static> = Word {
-    name: "out",
-    kind: WordKind::Value("FILE"),
-    help: "Write to FILE; to standard output, if none is given, or -",
-};
+pub const OUT_FILE: Word<'static> = Word(
+    "out",
+    Value("FILE"),
+    "Write to FILE; to standard output, if none is given, or -",
+);
 
 /// Whether the reason stands below a fault's line.
-pub const VERBOSE: Word<'static> = Word {
-    name: "verbose",
-    kind: WordKind::Flag,
-    help: "Say the file and the reason below the line of a fault, as at a terminal",
-};
+pub const VERBOSE: Word<'static> = Word(
+    "verbose",
+    Flag,
+    "Say the file and the reason below the line of a fault, as at a terminal",
+);
 
 /// What events are called.
-pub const LABELS: Word<'static> = Word {
-    name: "labels",
-    kind: WordKind::Value("FILE"),
-    help: "Names of events: lines 'EVENT TEXT'",
-};
+pub const LABELS: Word<'static> = Word(
+    "labels",
+    Value("FILE"),
+    "Names of events: lines 'EVENT TEXT'",
+);
 
 /// A command, or that memory was refused when it was made.
 pub type Made<'a> = Result<Command<'a>, AllocError>;
@@ -110,9 +104,10 @@ fn with_word<'a>(alloc: Global, command: Command<'a>, word: &Word<'a>) -> Made<'
 
 // The argument of the word.
 fn argument_of<'a>(alloc: Global, word: &Word<'a>) -> Result<Arg<'a>, AllocError> {
-    let argument = Arg::new(alloc, word.name).help(word.help);
-    match word.kind {
-        WordKind::Lone => Ok(argument),
+    let Word(name, kind, help) = *word;
+    let argument = Arg::new(alloc, name).help(help);
+    match kind {
+        Lone => Ok(argument),
         WordKind::NeededLone => Ok(argument.required(true)),
         WordKind::ManyLone => Ok(
             argument
@@ -120,7 +115,7 @@ fn argument_of<'a>(alloc: Global, word: &Word<'a>) -> Result<Arg<'a>, AllocError
                 .action(ArgAction::Append)
                 .num_args(1..=256),
         ),
-        _ => option_of(with_letter(argument, word.name), word),
+        _ => option_of(with_letter(argument, name), kind),
     }
 }
 
@@ -144,11 +139,11 @@ fn letter_of(name: &str) -> Option<char> {
     }
 }
 
-// The argument as the option that the word is.
-fn option_of<'a>(argument: Arg<'a>, word: &Word<'a>) -> Result<Arg<'a>, AllocError> {
-    match word.kind {
+// The argument as an option of this kind.
+fn option_of<'a>(argument: Arg<'a>, kind: WordKind<'a>) -> Result<Arg<'a>, AllocError> {
+    match kind {
         WordKind::Rival(other) => argument.action(ArgAction::SetTrue).conflicts_with(other),
-        WordKind::Value(shown) => Ok(argument.value_name(shown)),
+        Value(shown) => Ok(argument.value_name(shown)),
         WordKind::Needed(shown) => Ok(argument.value_name(shown).required(true)),
         WordKind::Values(shown) => Ok(argument.value_name(shown).action(ArgAction::Append)),
         WordKind::OneOf(shown, values) => Ok(

@@ -1,9 +1,9 @@
 //! The words of `explain` that say which findings are told.
 
-use crate::arguments::{bad_word, event_of};
+use crate::arguments::{RANGE, bad_word, event_of, value_of};
 use clap::ArgMatches;
-use command_inputs::{Fault, asked_range};
-use pmt_asked::{ByteRange, Choice, Kind};
+use command_inputs::{Fault, range_in};
+use pmt_asked::{Choice, Kind};
 use pmt_text::number::read_number;
 use std::alloc::Global;
 
@@ -18,20 +18,11 @@ pub const KINDS: &[&str] = &[
     "hint",
 ];
 
-/// Which findings are told.
-#[derive(Drop)]
-pub struct ChoiceWords {
-    /// What they have to meet.
-    pub choice: Choice,
-    /// Whether it is one failed assertion, which is then all between `from` and `to`.
-    pub is_one_failure: bool,
-}
-
-/// Which findings these words ask for.
+/// Which findings these words ask for; one failed assertion is all between `from` and `to`.
 ///
 /// # Errors
 /// A usage fault that names the wrong word and says what is allowed, or which words don't go together; `OutOfMemory`.
-pub fn choice_of(alloc: Global, given: &ArgMatches<'_>) -> Result<ChoiceWords, Fault> {
+pub fn choice_of(alloc: Global, given: &ArgMatches<'_>) -> Result<Choice, Fault> {
     let only = kind_of(given.get_str("only"));
     let from = event_of(alloc, given, "from", "--from <I>")?;
     let to = event_of(alloc, given, "to", "--to <J>")?;
@@ -39,22 +30,16 @@ pub fn choice_of(alloc: Global, given: &ArgMatches<'_>) -> Result<ChoiceWords, F
     if let Some(message) = clash(given, from, to) {
         return Err(Fault::usage(alloc, message));
     }
-    let is_one_failure = failure.is_some();
-    let choice = Choice {
-        only: if is_one_failure {
-            Some(Kind::Failure)
-        } else {
-            only
+    Ok(Choice {
+        only: match failure {
+            Some(_) => Some(Kind::Failure),
+            None => only,
         },
-        thread: thread_of(alloc, given.get_str("thread"))?,
-        range: range_of(alloc, given.get_str("range"))?,
+        thread: value_of(alloc, given, "thread", "--thread <T>", THREAD, thread_in)?,
+        range: value_of(alloc, given, "range", "--range <A:N>", RANGE, range_in)?,
         from: failure.or(from),
         to: failure.or(to),
-        label: label_of(alloc, given.get_str("label"))?,
-    };
-    Ok(ChoiceWords {
-        choice,
-        is_one_failure,
+        label: label_of(alloc, given)?,
     })
 }
 
@@ -87,31 +72,19 @@ fn kind_of(word: Option<&str>) -> Option<Kind> {
     }
 }
 
-// The thread that this word names.
-fn thread_of(alloc: Global, word: Option<&str>) -> Result<Option<u8>, Fault> {
-    let Some(text) = word else {
-        return Ok(None);
-    };
-    match read_number(10, text.as_bytes()) {
-        Some(thread) if thread < 256 => Ok(Some(thread as u8)),
-        _ => {
-            let allowed = "a thread, from 0 to 255, without leading zeros";
-            Err(bad_word(alloc, text, "--thread <T>", allowed))
-        }
-    }
-}
+const THREAD: &str = "a thread, from 0 to 255, without leading zeros";
 
-// The range that this word names.
-fn range_of(alloc: Global, word: Option<&str>) -> Result<Option<ByteRange>, Fault> {
-    match word {
-        Some(text) => Ok(Some(asked_range(alloc, "--range <A:N>", text)?)),
-        None => Ok(None),
+// The thread that this word names.
+fn thread_in(word: &str) -> Option<u8> {
+    match read_number(10, word.as_bytes()) {
+        Some(thread) if thread < 256 => Some(thread as u8),
+        _ => None,
     }
 }
 
 // The text that labels are to have.
-fn label_of(alloc: Global, word: Option<&str>) -> Result<Option<String>, Fault> {
-    match word {
+fn label_of(alloc: Global, given: &ArgMatches<'_>) -> Result<Option<String>, Fault> {
+    match given.get_str("label") {
         Some("") => {
             let allowed = "a text that stands in labels";
             Err(bad_word(alloc, "", "--label <TEXT>", allowed))

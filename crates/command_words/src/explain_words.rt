@@ -1,9 +1,11 @@
 //! The words of `explain`.
 
-use crate::arguments::{bad_word, out_name, trace_name};
-use crate::explain_choice::choice_of;
+use crate::arguments::{RANGE, event_of, out_name, trace_name, value_of, values_of};
+use crate::described::WordKind::{AnyOf, Flag, OneOf, Rival, Value, Values};
+use crate::described::{CommandText, OUT_FILE, TRACE_FILE, Word};
+use crate::explain_choice::{KINDS, choice_of};
 use clap::ArgMatches;
-use command_inputs::{Fault, asked_place, asked_range};
+use command_inputs::{Fault, asked_place, range_in};
 use command_requests::{Color, ExplainWords, Form};
 use pmt_asked::{ByteRange, Choice, Ignored, IgnoredPlace, Options};
 use pmt_text::number::read_number;
@@ -18,27 +20,102 @@ const MANY: usize = 1_000;
 // As many entries as there can be: each has an event of its own.
 const ALL: usize = 1_000_000;
 
+// When the text is colored.
+const COLORS: &[&str] = &["auto", "always", "never"];
+
+// The help of --only, with what stands in KINDS on two lines.
+const ONLY: &str =
+    "Tell findings of this kind alone{n}[possible values: failure, never_persisted, dropped,{n}overwritten, unwritten, late, hint]";
+
+// How `explain` is used.
+const USAGE: &str =
+    "pmtrim explain [--ignore A:N].. [--ignore-label LABEL].. [--ignore-file FILE].. [--limit N]\n                      [--only KIND] [--thread T] [--range A:N] [--from I] [--to J] [--label TEXT]\n                      [--failure N] [--labels FILE [--source DIR]] [--json | --html | --color WHEN]\n                      [--out FILE] [FILE]";
+
+/// The command `explain`.
+pub static EXPLAIN: CommandText<'static> = CommandText {
+    name: "explain",
+    usage: USAGE,
+    about: "Says what is wrong in a trace, why, and where to put the flush or fence.",
+    after: "Writes a summary, then each failed assertion with a crash that violates it, stores that are never{n}persisted, flushes and fences without effect, and overwritten stores: what matters most first, in at{n}most 40 lines unless --limit or --failure is given. --only to --failure choose what is told; the{n}status is of the whole trace.{n}Statuses: 0 done; 1 an assertion fails or a store that is not ignored is never persisted; 2 wrong{n}words; 3 trace, labels or ranges refused; 4 file fault; 5 out of memory{n}Example: pmtrim explain --labels run.trace.labels run.trace",
+    words: &[
+        Word(
+            "ignore",
+            Values("A:N"),
+            "Leave out what is lost in the N bytes from address A on, as 0x1000:8;{n}may be given more than once",
+        ),
+        Word(
+            "ignore-label",
+            Values("LABEL"),
+            "Leave out what stores of this place lose, as 'stats.c:12 bump', what{n}labels say before ' < ', or a beginning and a star, as 'stats.c:*';{n}wants --labels; may be given more than once",
+        ),
+        Word(
+            "ignore-file",
+            Values("FILE"),
+            "Leave out what this file tells too: lines A:N or 'label LABEL';{n}may be given more than once",
+        ),
+        Word(
+            "limit",
+            Value("N"),
+            "How many entries of each kind to show, or 'all'",
+        ),
+        Word("only", AnyOf("KIND", KINDS), ONLY),
+        Word("thread", Value("T"), "Tell of events of thread T alone"),
+        Word(
+            "range",
+            Value("A:N"),
+            "Tell of the N bytes from address A on alone",
+        ),
+        Word("from", Value("I"), "Tell of event I and later ones alone"),
+        Word("to", Value("J"), "Tell of event J and earlier ones alone"),
+        Word(
+            "label",
+            Value("TEXT"),
+            "Tell of events alone whose label has TEXT in it; wants --labels",
+        ),
+        Word(
+            "failure",
+            Value("N"),
+            "Tell of the failed assertion of event N alone",
+        ),
+        Word(
+            "labels",
+            Value("FILE"),
+            "What to call the events: lines EVENT TEXT by rising event number",
+        ),
+        Word("json", Flag, "Write a JSON object a line"),
+        Word(
+            "html",
+            Rival("json"),
+            "Write one page of HTML that walks through the trace:{n}open it in a browser",
+        ),
+        Word(
+            "source",
+            Value("DIR"),
+            "Put the source lines that labels name into the text or page, from{n}files below this folder; wants --labels, and no --json",
+        ),
+        Word("color", OneOf("WHEN", COLORS), "Color the text"),
+        OUT_FILE,
+        TRACE_FILE,
+    ],
+};
+
 /// What these words ask for.
 ///
 /// # Errors
 /// A usage fault that names the wrong word and says what is allowed; `OutOfMemory`.
 pub fn explain_words<'a>(alloc: Global, given: &ArgMatches<'a>) -> Result<ExplainWords<'a>, Fault> {
     let choice = choice_of(alloc, given)?;
-    let failure = match choice.is_one_failure {
-        true => choice.choice.from,
-        false => None,
-    };
     Ok(ExplainWords {
-        options: options_of(alloc, given, choice.choice)?,
+        options: options_of(alloc, given, choice)?,
         ignore_files: files_of(alloc, given)?,
         is_limited: given.get_str("limit").is_some(),
-        failure,
+        failure: event_of(alloc, given, "failure", "--failure <N>")?,
         labels: given.get_str("labels"),
         form: form_of(given),
         color: color_of(given),
         out: out_name(given),
         source: source_of(alloc, given)?,
-        page_limit: asked_limit(alloc, given.get_str("limit"), MANY)?,
+        page_limit: asked_limit(alloc, given, MANY)?,
         file: trace_name(given),
     })
 }
@@ -89,30 +166,22 @@ fn files_of<'a>(alloc: Global, given: &ArgMatches<'a>) -> Result<Vec<&'a str>, F
 
 fn options_of(alloc: Global, given: &ArgMatches<'_>, choice: Choice) -> Result<Options, Fault> {
     let ignored = Ignored {
-        ranges: ignored_of(alloc, given.get_strs("ignore").unwrap_or(&[]))?,
+        ranges: ignored_of(alloc, given)?,
         places: places_of(alloc, given)?,
     };
-    let limit = asked_limit(alloc, given.get_str("limit"), FEW)?;
     Ok(Options {
         ignored,
-        limit,
+        limit: asked_limit(alloc, given, FEW)?,
         choice,
     })
 }
 
-/// The ranges that these words of `--ignore` name.
+/// The ranges that `--ignore` names.
 ///
 /// # Errors
 /// A usage fault that names the first word that is no range; `OutOfMemory`.
-pub fn ignored_of(alloc: Global, ranges: &[&str]) -> Result<Vec<ByteRange>, Fault> {
-    let mut ignored = Vec::new(alloc);
-    for text in ranges {
-        let range = asked_range(alloc, "--ignore <A:N>", text)?;
-        if ignored.push(range).is_err() {
-            return Err(Fault::OutOfMemory);
-        }
-    }
-    Ok(ignored)
+pub fn ignored_of(alloc: Global, given: &ArgMatches<'_>) -> Result<Vec<ByteRange>, Fault> {
+    values_of(alloc, given, "ignore", "--ignore <A:N>", RANGE, range_in)
 }
 
 // The places whose stores are ignored: labels say which events are of them.
@@ -124,33 +193,22 @@ fn places_of(alloc: Global, given: &ArgMatches<'_>) -> Result<Vec<IgnoredPlace>,
     }
     let mut places = Vec::new(alloc);
     for text in words {
-        let place = asked_place(alloc, "--ignore-label <LABEL>", text)?;
-        if places.push(place).is_err() {
-            return Err(Fault::OutOfMemory);
-        }
+        places.push(asked_place(alloc, "--ignore-label <LABEL>", text)?)?;
     }
     Ok(places)
 }
 
-// The limit that this word names, or else this one.
-fn asked_limit(alloc: Global, word: Option<&str>, other: usize) -> Result<usize, Fault> {
-    let Some(text) = word else {
-        return Ok(other);
-    };
-    match limit_of(text.as_bytes()) {
-        Some(limit) => Ok(limit),
-        None => {
-            let allowed =
-                "a decimal number without leading zeros, or 'all'; 0 shows the summary alone";
-            Err(bad_word(alloc, text, "--limit <N>", allowed))
-        }
-    }
+// The limit that the words name, or else this one.
+fn asked_limit(alloc: Global, given: &ArgMatches<'_>, other: usize) -> Result<usize, Fault> {
+    let allowed = "a decimal number without leading zeros, or 'all'; 0 shows the summary alone";
+    let limit = value_of(alloc, given, "limit", "--limit <N>", allowed, limit_in)?;
+    Ok(limit.unwrap_or(other))
 }
 
-// The number, where the text is decimal without leading zeros, or all.
-fn limit_of(text: &[u8]) -> Option<usize> {
-    if text == b"all".as_slice() {
-        return Some(ALL);
+// The limit that the word names.
+fn limit_in(word: &str) -> Option<usize> {
+    match word {
+        "all" => Some(ALL),
+        _ => Some(read_number(10, word.as_bytes())? as usize),
     }
-    Some(read_number(10, text)? as usize)
 }

@@ -19,7 +19,7 @@ pub fn list_words<'a>(alloc: Global, given: &ArgMatches<'a>) -> Result<ListWords
     }
     Ok(ListWords {
         places: places_of(alloc, given)?,
-        off: off_of(alloc, given)?,
+        off: number_of(alloc, given, "off", "--off <K>")?.unwrap_or(1),
         out: out_name(given),
         file: trace_name(given),
     })
@@ -89,9 +89,4 @@ fn read_range(piece: &[u8]) -> Option<PlaceRange> {
         return None;
     }
     Some(PlaceRange { first, last })
-}
-
-// How many lines may be off; 1 where it is not said.
-fn off_of(alloc: Global, given: &ArgMatches<'_>) -> Result<u64, Fault> {
-    Ok(number_of(alloc, given, "off", "--off <K>")?.unwrap_or(1))
 }

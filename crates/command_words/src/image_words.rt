@@ -1,60 +1,59 @@
 //! The words of `image`.
-use crate::arguments::{bad_word, event_of, number_of, out_name, trace_name};
-use crate::described::{CommandText, OUT_FILE, TRACE_FILE, Word, WordKind};
+use crate::arguments::{
+    ADDRESS, address_in, event_of, number_of, out_name, trace_name, value_of, values_of,
+};
+use crate::described::WordKind::{Flag, Value, Values};
+use crate::described::{CommandText, OUT_FILE, TRACE_FILE, Word};
 use crate::image_list_words::list_words;
 use clap::ArgMatches;
-use command_inputs::{Fault, read_origin};
-use command_requests::{AddressStores, AskedCrash, ImageRequest, ImageWords};
+use command_inputs::Fault;
+use command_requests::{AddressStores, AskedCrash, ImageWords, Request};
 use pmt_image::{LineWord, read_line_word};
 use std::alloc::Global;
 
 /// The command `image`.
-pub const IMAGE: CommandText<'static> = CommandText {
+pub static IMAGE: CommandText<'static> = CommandText {
     name: "image",
     usage: "pmtrim image (--failure N | --at PLACE [--all] [--line A:K]..) [--pool BASE --origin A]\n                    [--out FILE] [FILE]\n       pmtrim image --list [--at PLACES] [--off K] [--out FILE] [FILE]",
     about: "Writes the pool's file as a crash leaves it, or lists crashes.",
     after: "A crash at a place leaves each line the stores that no crash can lose, with --all all its stores,{n}and the line of address A its first K. Without --pool and --origin the pool is FILE.base, and{n}FILE.origin has the address of its first byte.{n}The list has the crashes at each place that leave all lines but K the stores that no crash can lose,{n}and those that leave all but K all their stores: a line each, of the words that image takes. Without{n}--at the places are those after a fence or a clflush, and those after a store, or at the beginning,{n}with no store coming next.{n}Statuses: 0 done; 2 wrong words, or no crash leaves so many stores; 3 trace or pool refused; 4 file{n}fault; 5 out of memory{n}Example: pmtrim image --failure 7 --out crashed.pool run.trace",
     words: &[
-        Word {
-            name: "list",
-            kind: WordKind::Flag,
-            help: "List the crashes near places, and write no pool",
-        },
-        Word {
-            name: "off",
-            kind: WordKind::Value("K"),
-            help: "With --list: how many lines may be off (1)",
-        },
-        Word {
-            name: "failure",
-            kind: WordKind::Value("N"),
-            help: "The crash that violates the assertion of event N, as explain tells it",
-        },
-        Word {
-            name: "at",
-            kind: WordKind::Value("PLACE"),
-            help: "A crash after PLACE events; with --list places, as 12,40-60",
-        },
-        Word {
-            name: "all",
-            kind: WordKind::Flag,
-            help: "Leave each line all its stores",
-        },
-        Word {
-            name: "line",
-            kind: WordKind::Values("A:K"),
-            help: "Leave the line of address A its first K stores, as 0x1000:2; may be repeated,{n}and the last one of a line counts",
-        },
-        Word {
-            name: "pool",
-            kind: WordKind::Value("BASE"),
-            help: "The pool's file before the trace began; wants --origin",
-        },
-        Word {
-            name: "origin",
-            kind: WordKind::Value("A"),
-            help: "The address of the pool's first byte (hexadecimal); wants --pool",
-        },
+        Word(
+            "list",
+            Flag,
+            "List the crashes near places, and write no pool",
+        ),
+        Word(
+            "off",
+            Value("K"),
+            "With --list: how many lines may be off (1)",
+        ),
+        Word(
+            "failure",
+            Value("N"),
+            "The crash that violates the assertion of event N, as explain tells it",
+        ),
+        Word(
+            "at",
+            Value("PLACE"),
+            "A crash after PLACE events; with --list places, as 12,40-60",
+        ),
+        Word("all", Flag, "Leave each line all its stores"),
+        Word(
+            "line",
+            Values("A:K"),
+            "Leave the line of address A its first K stores, as 0x1000:2; may be repeated,{n}and the last one of a line counts",
+        ),
+        Word(
+            "pool",
+            Value("BASE"),
+            "The pool's file before the trace began; wants --origin",
+        ),
+        Word(
+            "origin",
+            Value("A"),
+            "The address of the pool's first byte (hexadecimal); wants --pool",
+        ),
         OUT_FILE,
         TRACE_FILE,
     ],
@@ -64,14 +63,14 @@ pub const IMAGE: CommandText<'static> = CommandText {
 ///
 /// # Errors
 /// A usage fault, or `OutOfMemory`.
-pub fn image_request<'a>(alloc: Global, given: &ArgMatches<'a>) -> Result<ImageRequest<'a>, Fault> {
+pub fn image_request<'a>(alloc: Global, given: &ArgMatches<'a>) -> Result<Request<'a>, Fault> {
     if given.get_flag("list") {
-        return Ok(ImageRequest::List(list_words(alloc, given)?));
+        return Ok(Request::ImageList(list_words(alloc, given)?));
     }
     if given.get_str("off").is_some() {
         return Err(Fault::usage(alloc, "'--off' stands with '--list'"));
     }
-    Ok(ImageRequest::Pool(image_words(alloc, given)?))
+    Ok(Request::Image(image_words(alloc, given)?))
 }
 
 // The words of one pool.
@@ -80,7 +79,7 @@ fn image_words<'a>(alloc: Global, given: &ArgMatches<'a>) -> Result<ImageWords<'
     let words = ImageWords {
         crash,
         pool: given.get_str("pool"),
-        origin: origin_of(alloc, given)?,
+        origin: value_of(alloc, given, "origin", "--origin <A>", ADDRESS, address_in)?,
         out: out_name(given),
         file: trace_name(given),
     };
@@ -112,42 +111,9 @@ fn crash_of(alloc: Global, given: &ArgMatches<'_>) -> Result<AskedCrash, Fault> 
 
 // The lines that are asked for.
 fn lines_of(alloc: Global, given: &ArgMatches<'_>) -> Result<Vec<AddressStores>, Fault> {
-    let words = given.get_strs("line").unwrap_or(&[]);
-    let mut lines = Vec::with_capacity(alloc, words.len())?;
-    for word in words {
-        let line = line_of_word(alloc, word)?;
-        if lines.push(line).is_err() {
-            return Err(Fault::OutOfMemory);
-        }
-    }
-    Ok(lines)
-}
-
-// The line that this word asks for.
-fn line_of_word(alloc: Global, word: &str) -> Result<AddressStores, Fault> {
-    match read_line_word(word) {
-        Some(LineWord { address, stores }) => Ok(AddressStores { address, stores }),
-        None => Err(bad_word(
-            alloc,
-            word,
-            "--line <A:K>",
-            "an address and how many stores, as 0x1000:2",
-        )),
-    }
-}
-
-// The address of the pool's first byte, if it is given.
-fn origin_of(alloc: Global, given: &ArgMatches<'_>) -> Result<Option<u64>, Fault> {
-    let Some(word) = given.get_str("origin") else {
-        return Ok(None);
-    };
-    match read_origin(word.as_bytes()) {
-        Some(origin) => Ok(Some(origin)),
-        None => Err(bad_word(
-            alloc,
-            word,
-            "--origin <A>",
-            "an address as 0x1000, at most 0xffffffffffff",
-        )),
-    }
+    let allowed = "an address and how many stores, as 0x1000:2";
+    values_of(alloc, given, "line", "--line <A:K>", allowed, |word| {
+        let LineWord { address, stores } = read_line_word(word)?;
+        Some(AddressStores { address, stores })
+    })
 }

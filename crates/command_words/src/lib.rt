@@ -6,7 +6,6 @@ mod command;
 mod described;
 mod draw_words;
 mod explain_choice;
-mod explain_command;
 mod explain_words;
 mod image_list_words;
 mod image_words;

@@ -1,36 +1,33 @@
 //! The words of `check`, `trim`, `fronts` and `record`.
-use crate::described::{CommandText, OUT_FILE, TRACE_FILE, VERBOSE, Word, WordKind};
+use crate::described::WordKind::{Flag, ManyLone, NeededLone, OneOf, Value};
+use crate::described::{CommandText, OUT_FILE, TRACE_FILE, VERBOSE, Word};
 
 // How many threads there may be.
 const WORKERS: &[&str] = &["1", "2", "4", "8", "16"];
 
 /// The command `check`.
-pub const CHECK: CommandText<'static> = CommandText {
+pub static CHECK: CommandText<'static> = CommandText {
     name: "check",
     usage: "pmtrim check [--workers N] [--labels FILE] [--limit N] [--quiet] [--out FILE] [FILE]",
     about: "Judges the assertions of a trace, and reports findings.",
     after: "Writes the number of events and lines, an entry for each finding and each assertion, and how many{n}events trim keeps.{n}Statuses: 0 done; 1 an assertion fails or a store is never persisted; 2 wrong words; 3 trace{n}refused; 4 file fault; 5 out of memory{n}Example: pmtrim check --workers 4 run.trace",
     words: &[
-        Word {
-            name: "workers",
-            kind: WordKind::OneOf("N", WORKERS),
-            help: "Accepted, and changes nothing: check{n}is one pass in one thread",
-        },
-        Word {
-            name: "labels",
-            kind: WordKind::Value("FILE"),
-            help: "Say behind each entry what its events are called: lines EVENT TEXT",
-        },
-        Word {
-            name: "limit",
-            kind: WordKind::Value("N"),
-            help: "Write at most N entries, or 'all', and how many are left out",
-        },
-        Word {
-            name: "quiet",
-            kind: WordKind::Flag,
-            help: "Write nothing: the status tells",
-        },
+        Word(
+            "workers",
+            OneOf("N", WORKERS),
+            "Accepted, and changes nothing: check{n}is one pass in one thread",
+        ),
+        Word(
+            "labels",
+            Value("FILE"),
+            "Say behind each entry what its events are called: lines EVENT TEXT",
+        ),
+        Word(
+            "limit",
+            Value("N"),
+            "Write at most N entries, or 'all', and how many are left out",
+        ),
+        Word("quiet", Flag, "Write nothing: the status tells"),
         OUT_FILE,
         VERBOSE,
         TRACE_FILE,
@@ -38,22 +35,18 @@ pub const CHECK: CommandText<'static> = CommandText {
 };
 
 /// The command `trim`.
-pub const TRIM: CommandText<'static> = CommandText {
+pub static TRIM: CommandText<'static> = CommandText {
     name: "trim",
     usage: "pmtrim trim [--workers N] [--stream | --out FILE] [FILE]",
     about: "Writes the trace without the flushes and fences that no crash can show.",
     after: "Statuses: 0 done; 2 wrong words; 3 trace refused; 4 file fault; 5 out of memory{n}Example: pmtrim trim --out trimmed.trace run.trace",
     words: &[
-        Word {
-            name: "workers",
-            kind: WordKind::OneOf("N", WORKERS),
-            help: "Accepted as check has it, and changes nothing:{n}trim is one pass in one thread",
-        },
-        Word {
-            name: "stream",
-            kind: WordKind::Flag,
-            help: "Write the trace as it is read",
-        },
+        Word(
+            "workers",
+            OneOf("N", WORKERS),
+            "Accepted as check has it, and changes nothing:{n}trim is one pass in one thread",
+        ),
+        Word("stream", Flag, "Write the trace as it is read"),
         OUT_FILE,
         VERBOSE,
         TRACE_FILE,
@@ -61,7 +54,7 @@ pub const TRIM: CommandText<'static> = CommandText {
 };
 
 /// The command `fronts`.
-pub const FRONTS: CommandText<'static> = CommandText {
+pub static FRONTS: CommandText<'static> = CommandText {
     name: "fronts",
     usage: "pmtrim fronts [--out FILE] FILE PLACE",
     about: "Tells how many stores of each cache line are safe at a place.",
@@ -69,21 +62,17 @@ pub const FRONTS: CommandText<'static> = CommandText {
     words: &[
         OUT_FILE,
         VERBOSE,
-        Word {
-            name: "FILE",
-            kind: WordKind::NeededLone,
-            help: "The trace",
-        },
-        Word {
-            name: "PLACE",
-            kind: WordKind::NeededLone,
-            help: "After how many events, a decimal number",
-        },
+        Word("FILE", NeededLone, "The trace"),
+        Word(
+            "PLACE",
+            NeededLone,
+            "After how many events, a decimal number",
+        ),
     ],
 };
 
 /// The command `record`.
-pub const RECORD: CommandText<'static> = CommandText {
+pub static RECORD: CommandText<'static> = CommandText {
     name: "record",
     usage: "pmtrim record [--out FILE] SCRIPT..",
     about: "Runs each script in a thread of its own, and writes the trace that they record.",
@@ -91,10 +80,10 @@ pub const RECORD: CommandText<'static> = CommandText {
     words: &[
         OUT_FILE,
         VERBOSE,
-        Word {
-            name: "SCRIPT",
-            kind: WordKind::ManyLone,
-            help: "The events of a thread, one a line; 1 to 256 scripts",
-        },
+        Word(
+            "SCRIPT",
+            ManyLone,
+            "The events of a thread, one a line; 1 to 256 scripts",
+        ),
     ],
 };

@@ -1,5 +1,5 @@
 //! What the words ask for.
-use crate::arguments::{bad_word, out_name, trace_name};
+use crate::arguments::{out_name, trace_name, value_of};
 use crate::command::commands;
 use crate::draw_words::drawing_of;
 use crate::explain_words::explain_words;
@@ -10,7 +10,7 @@ use crate::stat_words::stat_words;
 use clap::error::ErrorKind;
 use clap::{ArgMatches, Error};
 use command_inputs::Fault;
-use command_requests::{CheckWords, FrontsWords, ImageRequest, RecordWords, Request, TraceWords};
+use command_requests::{CheckWords, FrontsWords, RecordWords, Request, TraceWords};
 use pmt_text::number::read_number;
 use std::alloc::Global;
 use std::convert::AsStr;
@@ -49,7 +49,7 @@ fn asked<'a>(alloc: Global, matches: &ArgMatches<'a>) -> Result<Request<'a>, Fau
         Some(("explain", given)) => Ok(Request::Explain(explain_words(alloc, given)?)),
         Some(("fronts", given)) => fronts(alloc, given),
         Some(("record", given)) => record(alloc, given),
-        Some(("image", given)) => image(alloc, given),
+        Some(("image", given)) => image_request(alloc, given),
         Some(("slice", given)) => Ok(Request::Slice(slice_words(alloc, given)?)),
         Some(("stat", given)) => Ok(Request::Stat(stat_words(given))),
         Some(("parts", given)) => Ok(Request::Parts(parts_words(alloc, given)?)),
@@ -77,25 +77,18 @@ fn check_words<'a>(alloc: Global, given: &ArgMatches<'a>) -> Result<CheckWords<'
     Ok(CheckWords {
         trace: trace_words(given),
         labels: given.get_str("labels"),
-        limit: limit_of(alloc, given)?,
+        limit: value_of(alloc, given, "limit", "--limit <N>", LIMIT, limit_in)?.unwrap_or(None),
         quiet: given.get_flag("quiet"),
     })
 }
 
-// The most entries; none for all.
-fn limit_of(alloc: Global, given: &ArgMatches<'_>) -> Result<Option<u64>, Fault> {
-    let Some(word) = given.get_str("limit") else {
-        return Ok(None);
-    };
-    if word == "all" {
-        return Ok(None);
-    }
-    match read_number(10, word.as_bytes()) {
-        Some(limit) => Ok(Some(limit)),
-        None => {
-            let allowed = "a decimal number without leading zeros, or 'all'";
-            Err(bad_word(alloc, word, "--limit <N>", allowed))
-        }
+const LIMIT: &str = "a decimal number without leading zeros, or 'all'";
+
+// The limit that the word names: a number, or none for all.
+fn limit_in(word: &str) -> Option<Option<u64>> {
+    match word {
+        "all" => Some(None),
+        _ => Some(Some(read_number(10, word.as_bytes())?)),
     }
 }
 
@@ -112,13 +105,6 @@ fn trim<'a>(alloc: Global, given: &ArgMatches<'a>) -> Result<Request<'a>, Fault>
     Ok(Request::Stream(words))
 }
 
-fn image<'a>(alloc: Global, given: &ArgMatches<'a>) -> Result<Request<'a>, Fault> {
-    match image_request(alloc, given)? {
-        ImageRequest::List(words) => Ok(Request::ImageList(words)),
-        ImageRequest::Pool(words) => Ok(Request::Image(words)),
-    }
-}
-
 // The number that the word is: 1, 2, 4, 8 or 16, since the command takes no other.
 fn workers_of(given: &ArgMatches<'_>) -> usize {
     let word = given.get_str("workers").unwrap_or("1");
@@ -129,21 +115,14 @@ fn workers_of(given: &ArgMatches<'_>) -> usize {
 }
 
 fn fronts<'a>(alloc: Global, given: &ArgMatches<'a>) -> Result<Request<'a>, Fault> {
-    let file = trace_name(given);
-    let verbose = given.get_flag("verbose");
-    let text = given.get_str("PLACE").unwrap_or("");
-    match place_of(text) {
-        Some(place) => Ok(Request::Fronts(FrontsWords {
-            file,
-            place,
-            out: out_name(given),
-            verbose,
-        })),
-        None => {
-            let allowed = "a decimal number without leading zeros, at most 18446744073709551615";
-            Err(bad_word(alloc, text, "<PLACE>", allowed))
-        }
-    }
+    let allowed = "a decimal number without leading zeros, at most 18446744073709551615";
+    let place = value_of(alloc, given, "PLACE", "<PLACE>", allowed, place_of)?;
+    Ok(Request::Fronts(FrontsWords {
+        file: trace_name(given),
+        place: place.unwrap_or(0),
+        out: out_name(given),
+        verbose: given.get_flag("verbose"),
+    }))
 }
 
 // The number, where the text is decimal without leading zeros and it is below 2^64.

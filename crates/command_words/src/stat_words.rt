@@ -1,22 +1,19 @@
 //! The words of `stat`.
 use crate::arguments::{out_name, trace_name};
-use crate::described::{CommandText, LABELS, OUT_FILE, TRACE_FILE, Word, WordKind};
+use crate::described::WordKind::Flag;
+use crate::described::{CommandText, LABELS, OUT_FILE, TRACE_FILE, Word};
 use clap::ArgMatches;
 use command_requests::StatWords;
 
 /// The command `stat`.
-pub const STAT: CommandText<'static> = CommandText {
+pub static STAT: CommandText<'static> = CommandText {
     name: "stat",
     usage: "pmtrim stat [--labels FILE] [--json] [--out FILE] [FILE]",
     about: "Counts events, how full fences are, and what each place pays for flushes and fences.",
     after: "A place is the innermost frame of a label, as 'leaves.c:141 split', or of events without label their{n}thread.{n}Statuses: 0 done; 2 wrong words; 3 trace or labels refused; 4 file fault; 5 out of memory{n}Example: pmtrim stat --labels run.trace.labels run.trace",
     words: &[
         LABELS,
-        Word {
-            name: "json",
-            kind: WordKind::Flag,
-            help: "Write JSON, an object a line",
-        },
+        Word("json", Flag, "Write JSON, an object a line"),
         OUT_FILE,
         TRACE_FILE,
     ],
