@@ -5,7 +5,9 @@ use pmt_pen::Pen;
 
 // Adds the number at the right of a column of so many letters.
 pub(crate) fn push_column(pen: &mut Pen, number: u64, width: usize) {
-    push_gap(pen, width, digits_of(number));
+    for _ in digits_of(number)..width {
+        pen.letter(' ');
+    }
     pen.number(number);
 }
 
@@ -19,13 +21,6 @@ pub(crate) fn push_name(pen: &mut Pen, name: &str, width: usize) {
         pen.letter(letter);
     }
     pen.put("...");
-}
-
-// Adds the spaces before what takes so many letters of a column.
-fn push_gap(pen: &mut Pen, width: usize, taken: usize) {
-    for _ in taken..width {
-        pen.letter(' ');
-    }
 }
 
 // How many digits the number has.

@@ -1,10 +1,10 @@
 //! What is measured of a trace.
 
 use command_inputs::{
-    Fault, Input, Opener, Recalls, counted_reader, cut_of, labels_of, opened, untaken_fault,
+    Fault, Input, Opener, Recalls, counted_reader, cut_of, labels_of, opened, untaken,
 };
-use command_requests::StatWords;
-use pmt_asked::{Choice, Cut, Ignored, Kind, Labels, Options, frame_of};
+use command_requests::{StatWords, options_for};
+use pmt_asked::{Cut, Kind, Labels, frame_of};
 use pmt_causes::Origin;
 use pmt_explain_run::explain;
 use pmt_explanation::{Explanation, Summary, summary_of};
@@ -59,32 +59,12 @@ fn explained<T: Threads + Sync, R: Read + Drop>(
     file: Option<&str>,
     reader: R,
 ) -> Result<Explanation, Fault> {
-    let options = options_of(alloc);
+    let options = options_for(alloc, Some(Kind::Unwritten));
     let reader = counted_reader(alloc, reader, Recalls::LastLines)?;
     let mut source = TextSource::new(alloc, reader);
     match explain(rt, alloc, &mut source, labels, &options) {
         Ok(explanation) => Ok(explanation),
-        Err(error) => {
-            let reader = source.into_input().into_inner();
-            let input = Input::new("stat", file);
-            Err(untaken_fault(alloc, input, error, reader.memory()))
-        }
-    }
-}
-
-// That nothing is asked but what each place has.
-fn options_of(alloc: Global) -> Options {
-    Options {
-        ignored: Ignored::new(alloc),
-        limit: 0,
-        choice: Choice {
-            only: Some(Kind::Unwritten),
-            thread: None,
-            range: None,
-            from: None,
-            to: None,
-            label: None,
-        },
+        Err(error) => Err(untaken(alloc, Input::new("stat", file), error, source)),
     }
 }
 

@@ -1,12 +1,11 @@
 //! `stat`: figures of a trace.
 ghost use Rattle.std.specs.Prelude.{◌≡◌, IfOk};
 
-use crate::measured::{Measured, measured_of};
+use crate::measured::measured_of;
 use crate::objects::json_text;
 use crate::text::people_text;
 use command_inputs::{Fault, Opener, write_answer};
 use command_requests::StatWords;
-use pmt_model::OutOfMemory;
 use std::alloc::Global;
 use std::io::{Read, Write};
 use std::thread::Threads;
@@ -15,7 +14,7 @@ use std::thread::Threads;
 ///
 /// # Errors
 /// The fault of the labels, of the trace, or of the write: the first of them.
-pub fn run_stat<T, O, I, W>(
+pub fn run_stat<T: Threads + Sync, O: Opener, I: Read, W: Write>(
     rt: &T,
     alloc: Global,
     words: &StatWords<'_>,
@@ -23,24 +22,14 @@ pub fn run_stat<T, O, I, W>(
     input: &mut I,
     out: &mut W,
 ) -> Result<u8, Fault>
-where
-    T: Threads + Sync,
-    O: Opener,
-    I: Read,
-    W: Write,
     ensures { IfOk result (λ status. status ≡ 0) }
 {
     let own = measured_of(rt, alloc, words, files, input)?;
-    let answer = answer_of(alloc, words, &own)?;
+    let answer = if words.json {
+        json_text(alloc, &own)?
+    } else {
+        people_text(alloc, &own)?
+    };
     write_answer(alloc, answer.as_slice(), out)?;
     Ok(0)
-}
-
-// The figures, as they are asked for.
-fn answer_of(alloc: Global, words: &StatWords<'_>, own: &Measured) -> Result<Vec<u8>, OutOfMemory> {
-    if words.json {
-        json_text(alloc, own)
-    } else {
-        people_text(alloc, own)
-    }
 }
