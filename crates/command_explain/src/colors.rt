@@ -7,44 +7,15 @@ use std::alloc::{AllocError, Global};
 const PLAIN: &[u8] = b"\x1b[0m";
 
 // What begins a line, and how it is shown there.
-struct Head {
-    word: &'static [u8],
-    color: &'static [u8],
-}
-
-const HEADS: [Head; 8] = [
-    Head {
-        word: b"error:",
-        color: b"\x1b[1;31m",
-    },
-    Head {
-        word: b"warning:",
-        color: b"\x1b[1;33m",
-    },
-    Head {
-        word: b"note:",
-        color: b"\x1b[1;36m",
-    },
-    Head {
-        word: b"hint:",
-        color: b"\x1b[1;36m",
-    },
-    Head {
-        word: b"hints:",
-        color: b"\x1b[1m",
-    },
-    Head {
-        word: b"table:",
-        color: b"\x1b[1m",
-    },
-    Head {
-        word: b"places:",
-        color: b"\x1b[1m",
-    },
-    Head {
-        word: b"  fix:",
-        color: b"\x1b[1;32m",
-    },
+const HEADS: &[(&[u8], &[u8])] = &[
+    (b"error:", b"\x1b[1;31m"),
+    (b"warning:", b"\x1b[1;33m"),
+    (b"note:", b"\x1b[1;36m"),
+    (b"hint:", b"\x1b[1;36m"),
+    (b"hints:", b"\x1b[1m"),
+    (b"table:", b"\x1b[1m"),
+    (b"places:", b"\x1b[1m"),
+    (b"  fix:", b"\x1b[1;32m"),
 ];
 
 // How the number of a source line is shown.
@@ -74,9 +45,9 @@ pub(crate) fn colored(alloc: Global, text: &[u8]) -> Result<Vec<u8>, AllocError>
 // Adds the line, with what begins it in color.
 fn push_line(shown: &mut Vec<u8>, line: &[u8]) -> Result<(), AllocError> {
     let mut rest = line;
-    for head in &HEADS {
-        if let Some(after) = rest.strip_prefix(head.word) {
-            push_colored(shown, head.color, head.word)?;
+    for (word, color) in HEADS {
+        if let Some(after) = rest.strip_prefix(*word) {
+            push_colored(shown, color, word)?;
             rest = after;
             break;
         }

@@ -2,10 +2,10 @@
 ghost use Rattle.std.specs.Prelude.{◌≡◌, IfOk};
 
 use command_inputs::{
-    Fault, Input, Opener, Recalls, counted_reader, labels_of, opened, untaken_fault, write_named,
+    Fault, Input, Opener, Recalls, counted_reader, labels_of, opened, untaken, write_named,
 };
-use command_requests::{AskedEvents, Drawing};
-use pmt_asked::{Choice, Ignored, Kind, Labels, Options};
+use command_requests::{AskedEvents, Drawing, options_for};
+use pmt_asked::{Kind, Labels};
 use pmt_causes::Group;
 use pmt_draw::{Label, svg_text};
 use pmt_explain::{LostGroup, OverwrittenGroup};
@@ -18,7 +18,7 @@ use pmt_picture::{
     refusal_of,
 };
 use pmt_text::TextSource;
-use std::alloc::{AllocError, Global};
+use std::alloc::Global;
 use std::io::{Read, Write};
 use std::thread::Threads;
 
@@ -26,7 +26,7 @@ use std::thread::Threads;
 ///
 /// # Errors
 /// The fault of the labels, of the trace or of the write; `OutOfMemory`.
-pub fn draw<T, O, I, W>(
+pub fn draw<T: Threads + Sync, O: Opener, I: Read, W: Write>(
     rt: &T,
     alloc: Global,
     drawing: &Drawing<'_>,
@@ -34,11 +34,6 @@ pub fn draw<T, O, I, W>(
     input: &mut I,
     out: &mut W,
 ) -> Result<u8, Fault>
-where
-    T: Threads + Sync,
-    O: Opener,
-    I: Read,
-    W: Write,
     ensures { IfOk result (λ status. status ≡ 0) }
 {
     let labels = labels_of(alloc, files, drawing.labels)?;
@@ -49,13 +44,8 @@ where
         }
         None => explained(rt, alloc, drawing, &labels, input)?,
     };
-    let text = svg_of(
-        alloc,
-        &explanation,
-        drawing.events,
-        drawing.lines.as_slice(),
-        &labels,
-    )?;
+    let lines = drawing.lines.as_slice();
+    let text = svg_of(alloc, &explanation, drawing.events, lines, &labels)?;
     let read = [drawing.file, drawing.labels];
     write_named(alloc, files, drawing.out, &read, text.into_bytes(), out)?;
     Ok(0)
@@ -69,37 +59,22 @@ fn explained<T: Threads + Sync, R: Read + Drop>(
     labels: &Labels,
     reader: R,
 ) -> Result<Explanation, Fault> {
-    let options = Options {
-        ignored: Ignored::new(alloc),
-        limit: 0,
-        choice: needed_by(drawing.events),
-    };
+    let options = options_for(alloc, needed_by(drawing.events));
     let reader = counted_reader(alloc, reader, Recalls::LastLines)?;
     let mut source = TextSource::new(alloc, reader);
     match explain(rt, alloc, &mut source, labels, &options) {
         Ok(explanation) => Ok(explanation),
-        Err(error) => {
-            let reader = source.into_input().into_inner();
-            let input = Input::new("draw", drawing.file);
-            Err(untaken_fault(alloc, input, error, reader.memory()))
-        }
+        Err(error) => Err(untaken(alloc, Input::new("draw", drawing.file), error, source)),
     }
 }
 
-// The findings that a picture of these events needs: to draw what is told first all of them, and else those of the signs.
-fn needed_by(asked: AskedEvents) -> Choice {
-    Choice {
-        only: match asked {
-            AskedEvents::First => None,
-            AskedEvents::Failure(_) | AskedEvents::Around(_) | AskedEvents::Between { .. } => {
-                Some(Kind::Dropped)
-            }
-        },
-        thread: None,
-        range: None,
-        from: None,
-        to: None,
-        label: None,
+// The kind of findings that a picture of these events needs: to draw what is told first all of them, and else those of the signs.
+fn needed_by(asked: AskedEvents) -> Option<Kind> {
+    match asked {
+        AskedEvents::First => None,
+        AskedEvents::Failure(_) | AskedEvents::Around(_) | AskedEvents::Between { .. } => {
+            Some(Kind::Dropped)
+        }
     }
 }
 
@@ -301,16 +276,11 @@ fn drawn_labels(
     let mut shown = Vec::new(alloc);
     for column in &drawn.columns {
         if let Some(text) = labels.get(column.number) {
-            push_label(&mut shown, column.number, text)?;
+            shown.push(Label {
+                event: column.number,
+                text: text.clone()?,
+            })?;
         }
     }
     Ok(shown)
-}
-
-fn push_label(shown: &mut Vec<Label>, event: u64, text: &String) -> Result<(), OutOfMemory> {
-    let text = text.clone()?;
-    match shown.push(Label { event, text }) {
-        Ok(()) => Ok(()),
-        Err(_) => Err(AllocError),
-    }
 }

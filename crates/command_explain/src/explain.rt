@@ -33,7 +33,7 @@ const ROWS: usize = 40;
 /// # Errors
 /// The fault of a file of what is ignored, of the labels, of the trace, that no failed assertion is where one was asked for, the fault of the
 /// folder of the source files, that of the write: the first of them. Each names the file and says why.
-pub fn run_explain<T, O, I, W, P>(
+pub fn run_explain<T: Threads + Sync, O: Opener, I: Read, W: Write, P: Watch>(
     rt: &T,
     alloc: Global,
     words: &mut ExplainWords<'_>,
@@ -43,12 +43,6 @@ pub fn run_explain<T, O, I, W, P>(
     colors: bool,
     watch: &mut P,
 ) -> Result<u8, Fault>
-where
-    T: Threads + Sync,
-    O: Opener,
-    I: Read,
-    W: Write,
-    P: Watch,
     ensures { IfOk result (λ status. status ≤ 1) }
 {
     watch.tell(Doing::ReadingFiles);

@@ -104,17 +104,6 @@ fn page_with_room<O: Opener>(
             return Ok(page);
         }
     }
-    narrow_page(alloc, files, explanation, words, asked)
-}
-
-// The page of a trace whose columns leave little room.
-fn narrow_page<O: Opener>(
-    alloc: Global,
-    files: &O,
-    explanation: &mut Explanation,
-    words: &ExplainWords<'_>,
-    asked: Asked<'_>,
-) -> Result<Vec<u8>, Fault> {
     let told = told_within(alloc, explanation, asked.beside, words, NARROW.told)?;
     page_within(alloc, files, asked, explanation, told.as_slice(), NARROW)
 }

@@ -78,38 +78,17 @@ impl Shown {
             SourceText::Bytes(bytes) => {
                 self.lines
                     .take_file(alloc, place, one.lines.as_slice(), bytes.as_slice())?;
-                push(&mut self.reasons, String::new(alloc))
+                self.reasons.push(String::new(alloc))?;
             }
-            SourceText::Refused(why) => push(&mut self.reasons, why),
+            SourceText::Refused(why) => self.reasons.push(why)?,
         }
-    }
-}
-
-fn push(list: &mut Vec<String>, text: String) -> Result<(), AllocError> {
-    match list.push(text) {
-        Ok(()) => Ok(()),
-        Err(_) => Err(AllocError),
+        Ok(())
     }
 }
 
 // The block of as many of the files as there are reasons, and of the lines.
 fn block_of(alloc: Global, wanted: &[Wanted<'_>], shown: &Shown) -> Result<Vec<u8>, AllocError> {
-    let named = named_files(alloc, wanted, shown.reasons.as_slice())?;
-    let parts = parts_of(alloc, &shown.lines)?;
-    sources_text(
-        alloc,
-        named.as_slice(),
-        parts.as_slice(),
-        shown.lines.is_all,
-    )
-}
-
-// As many of the files as there are reasons.
-fn named_files<'a>(
-    alloc: Global,
-    wanted: &'a [Wanted<'a>],
-    reasons: &'a [String],
-) -> Result<Vec<SourceFile<'a>>, AllocError> {
+    let Shown { lines, reasons } = shown;
     let mut named = Vec::with_capacity(alloc, reasons.len())?;
     for (one, why) in wanted.iter().zip(reasons.iter()) {
         named.push(SourceFile {
@@ -117,11 +96,6 @@ fn named_files<'a>(
             why: why.as_str(),
         })?;
     }
-    Ok(named)
-}
-
-// The lines, as the page has them.
-fn parts_of(alloc: Global, lines: &Lines) -> Result<Vec<SourcePart<'_>>, AllocError> {
     let mut parts = Vec::with_capacity(alloc, lines.parts.len())?;
     for part in lines.parts.iter() {
         parts.push(SourcePart {
@@ -130,7 +104,7 @@ fn parts_of(alloc: Global, lines: &Lines) -> Result<Vec<SourcePart<'_>>, AllocEr
             lines: part.lines.as_str(),
         })?;
     }
-    Ok(parts)
+    sources_text(alloc, named.as_slice(), parts.as_slice(), lines.is_all)
 }
 
 // The places that the labels name.

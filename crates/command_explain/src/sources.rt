@@ -3,7 +3,7 @@
 use command_inputs::{Fault, Opener, Places, SourceFolder, SourceText, Wanted, shown_source};
 use pmt_model::OutOfMemory;
 use pmt_sources::{SourceLine, SourcePlace, Sources, line_in, visible};
-use std::alloc::{AllocError, Global};
+use std::alloc::Global;
 
 /// The lines of these places, in files below this folder, none of which is the file that is to be written, if one is named.
 ///
@@ -31,7 +31,7 @@ pub(crate) fn sources_of<'a, O: Opener>(
             SourceText::Bytes(bytes) => add_lines(alloc, &mut sources, one, bytes.as_slice())?,
             SourceText::Refused(why) => {
                 let why = why.as_str();
-                add_note(&mut sources, format!(in alloc; "{name}: {why}")?)?;
+                sources.notes.push(format!(in alloc; "{name}: {why}")?)?;
             }
         }
     }
@@ -50,25 +50,17 @@ fn add_lines<'a>(
         let line = *line;
         match line_in(text, line) {
             Some(bytes) => {
-                let found = SourceLine {
+                sources.lines.push(SourceLine {
                     place: SourcePlace { file, line },
                     text: shown_line(alloc, bytes)?,
-                };
-                if sources.lines.push(found).is_err() {
-                    return Err(AllocError);
-                }
+                })?;
             }
-            None => add_note(sources, format!(in alloc; "{file} has no line {line}")?)?,
+            None => sources
+                .notes
+                .push(format!(in alloc; "{file} has no line {line}")?)?,
         }
     }
     Ok(())
-}
-
-fn add_note(sources: &mut Sources<'_>, note: String) -> Result<(), OutOfMemory> {
-    match sources.notes.push(note) {
-        Ok(()) => Ok(()),
-        Err(_) => Err(AllocError),
-    }
 }
 
 // The line as a terminal may show it, without the blanks at its start.
