@@ -27,7 +27,7 @@ use std::thread::Threads;
 /// # Errors
 /// The fault of the labels, of the file or of the run, the latter two with the reason below their line if one is asked for;
 /// `OutOfMemory`.
-pub fn check<T, O, I, W>(
+pub fn check<T: AllocGlobal + Threads + Sync, O: Opener, I: Read, W: Write>(
     rt: &T,
     words: CheckWords<'_>,
     files: &O,
@@ -35,11 +35,6 @@ pub fn check<T, O, I, W>(
     out: &mut W,
     recalls: Recalls,
 ) -> Result<u8, Fault>
-where
-    T: AllocGlobal + Threads + Sync,
-    O: Opener,
-    I: Read,
-    W: Write,
     ensures few { IfOk result (λ status. status ≤ 1) }
     ensures whole { words.entry.trace.file ≡ None → words.entry.labels ≡ None → words.entry.limit ≡ None → words.entry.quiet ≡ false → EndsCheck (coming_from_reader (I.remaining input.old)) (W.contents out.old) (W.contents out.new) (end_status result) }
     ensures judged { words.entry.trace.file ≡ None → IfOk result (EndsCheck (coming_from_reader (I.remaining input.old)) None None) }
@@ -57,7 +52,7 @@ where
 }
 
 // Checks the trace that the reader gives: as it is fixed, or with nothing written, or with places or fewer entries.
-fn check_reader<T, R, W>(
+fn check_reader<T: AllocGlobal + Threads + Sync, R: Read + Drop, W: Write>(
     rt: &T,
     words: CheckWords<'_>,
     labels: &Labels,
@@ -65,10 +60,6 @@ fn check_reader<T, R, W>(
     out: &mut W,
     recalls: Recalls,
 ) -> Result<u8, Fault>
-where
-    T: AllocGlobal + Threads + Sync,
-    R: Read + Drop,
-    W: Write,
     ensures few { IfOk result (λ status. status ≤ 1) }
     ensures whole { words.entry.labels ≡ None → words.entry.limit ≡ None → words.entry.quiet ≡ false → EndsCheck (coming_from_reader (R.remaining reader)) (W.contents out.old) (W.contents out.new) (end_status result) }
     ensures judged { IfOk result (EndsCheck (coming_from_reader (R.remaining reader)) None None) }
@@ -104,17 +95,13 @@ fn check_placed<R: Read + Drop, W: Write>(
 }
 
 // The report as it is fixed.
-fn check_whole<T, R, W>(
+fn check_whole<T: AllocGlobal + Threads + Sync, R: Read + Drop, W: Write>(
     rt: &T,
     words: TraceWords<'_>,
     reader: R,
     out: &mut W,
     recalls: Recalls,
 ) -> Result<u8, Fault>
-where
-    T: AllocGlobal + Threads + Sync,
-    R: Read + Drop,
-    W: Write,
     ensures few { IfOk result (λ status. status ≤ 1) }
     ensures ends { EndsCheck (coming_from_reader (R.remaining reader)) (W.contents out.old) (W.contents out.new) (end_status result) }
 {

@@ -16,7 +16,7 @@ use std::io::{Read, Write};
 ///
 /// # Errors
 /// The fault of the file or of the run, with the reason below its line if one is asked for; `OutOfMemory`.
-pub fn fronts<O, I, W>(
+pub fn fronts<O: Opener, I: Read, W: Write>(
     alloc: Global,
     words: FrontsWords<'_>,
     files: &O,
@@ -24,10 +24,6 @@ pub fn fronts<O, I, W>(
     out: &mut W,
     recalls: Recalls,
 ) -> Result<u8, Fault>
-where
-    O: Opener,
-    I: Read,
-    W: Write,
     ensures few { IfOk result (λ status. status ≤ 1) }
     ensures ends { words.entry.file ≡ None → EndsFronts words.entry.place (coming_from_reader (I.remaining input.old)) (W.contents out.old) (W.contents out.new) (end_status result) }
 {

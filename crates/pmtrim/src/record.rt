@@ -20,17 +20,13 @@ use std::thread::Threads;
 /// # Errors
 /// The first script's that can't be opened, whose read fails, or which is refused; then that of the recording; then that of the
 /// write, each with the reason below its line if one is asked for; `OutOfMemory`.
-pub fn record<T, O, W>(
+pub fn record<T: AllocGlobal + Threads + Wait + Sync, O: Opener, W: Write>(
     rt: &T,
     files: &O,
     names: &[&str],
     out: &mut W,
     recalls: Recalls,
 ) -> Result<u8, Fault>
-where
-    T: AllocGlobal + Threads + Wait + Sync,
-    O: Opener,
-    W: Write,
     ensures done { IfOk result (λ status. status ≡ 0) }
     ensures written { Records (length names.now) (W.contents out.old) (W.contents out.new) result }
 {
@@ -42,10 +38,12 @@ where
 }
 
 // The text of the trace that the scripts with these names record.
-fn text_of<T, O>(rt: &T, files: &O, names: &[&str], recalls: Recalls) -> Result<Vec<u8>, Fault>
-where
-    T: AllocGlobal + Threads + Wait + Sync,
-    O: Opener,
+fn text_of<T: AllocGlobal + Threads + Wait + Sync, O: Opener>(
+    rt: &T,
+    files: &O,
+    names: &[&str],
+    recalls: Recalls,
+) -> Result<Vec<u8>, Fault>
     ensures { IfOk result (λ text. IsTextOfRecorded (length names.now) text.items) }
 {
     let alloc = rt.alloc();
@@ -105,9 +103,10 @@ fn script_fault(script: u64, error: SourceError) -> Fault {
 }
 
 // The trace that the scripts record.
-fn recorded<T>(rt: &T, scripts: Vec<Vec<Op>>) -> Result<Trace, Fault>
-where
-    T: AllocGlobal + Threads + Wait + Sync,
+fn recorded<T: AllocGlobal + Threads + Wait + Sync>(
+    rt: &T,
+    scripts: Vec<Vec<Op>>,
+) -> Result<Trace, Fault>
     ensures { IfOk result (IsRecorded first_version (map (λ script. script.items) scripts.items)) }
 {
     let alloc = rt.alloc();

@@ -110,7 +110,7 @@ fn tell_lacking<O: Opener, F: Write>(
 }
 
 // Answers to the file that is to be written, or to `out`.
-fn answer<T, O, I, W, P>(
+fn answer<T: AllocGlobal + Threads + Wait + Sync, O: Opener, I: Read, W: Write, P: Watch>(
     rt: &T,
     request: &mut Request<'_>,
     files: &O,
@@ -119,12 +119,6 @@ fn answer<T, O, I, W, P>(
     terminals: Terminals,
     watch: &mut P,
 ) -> Result<u8, Fault>
-where
-    T: AllocGlobal + Threads + Wait + Sync,
-    O: Opener,
-    I: Read,
-    W: Write,
-    P: Watch,
     ensures { IfOk result (λ status. status ≤ 1) }
 {
     let name = request.out();
@@ -145,7 +139,7 @@ where
 }
 
 // Answers to `out`.
-fn answer_to<T, O, I, W, P>(
+fn answer_to<T: AllocGlobal + Threads + Wait + Sync, O: Opener, I: Read, W: Write, P: Watch>(
     rt: &T,
     request: &mut Request<'_>,
     files: &O,
@@ -154,12 +148,6 @@ fn answer_to<T, O, I, W, P>(
     terminals: Terminals,
     watch: &mut P,
 ) -> Result<u8, Fault>
-where
-    T: AllocGlobal + Threads + Wait + Sync,
-    O: Opener,
-    I: Read,
-    W: Write,
-    P: Watch,
     ensures few { IfOk result (λ status. status ≤ 1) }
     ensures ends { Answers request.old (I.remaining input.old) (W.contents out.old) (W.contents out.new) (end_status result) }
 {

@@ -19,7 +19,7 @@ use std::thread::Threads;
 ///
 /// # Errors
 /// The fault of the file or of the run, with the reason below its line if one is asked for; `OutOfMemory`.
-pub fn trim<T, O, I, W>(
+pub fn trim<T: AllocGlobal + Threads + Sync, O: Opener, I: Read, W: Write>(
     rt: &T,
     words: TraceWords<'_>,
     files: &O,
@@ -27,11 +27,6 @@ pub fn trim<T, O, I, W>(
     out: &mut W,
     recalls: Recalls,
 ) -> Result<u8, Fault>
-where
-    T: AllocGlobal + Threads + Sync,
-    O: Opener,
-    I: Read,
-    W: Write,
     ensures few { IfOk result (λ status. status ≤ 1) }
     ensures ends { words.entry.file ≡ None → EndsTrim (coming_from_reader (I.remaining input.old)) (W.contents out.old) (W.contents out.new) (end_status result) }
 {
@@ -44,17 +39,13 @@ where
     }
 }
 
-fn trim_reader<T, R, W>(
+fn trim_reader<T: AllocGlobal + Threads + Sync, R: Read + Drop, W: Write>(
     rt: &T,
     words: TraceWords<'_>,
     reader: R,
     out: &mut W,
     recalls: Recalls,
 ) -> Result<u8, Fault>
-where
-    T: AllocGlobal + Threads + Sync,
-    R: Read + Drop,
-    W: Write,
     ensures few { IfOk result (λ status. status ≤ 1) }
     ensures ends { EndsTrim (coming_from_reader (R.remaining reader)) (W.contents out.old) (W.contents out.new) (end_status result) }
 {
@@ -80,7 +71,7 @@ fn input_of(words: TraceWords<'_>) -> Input<'_> {
 ///
 /// # Errors
 /// As `trim`; what is out before a fault stays.
-pub fn stream<O, I, W>(
+pub fn stream<O: Opener, I: Read, W: Write>(
     alloc: Global,
     words: TraceWords<'_>,
     files: &O,
@@ -88,10 +79,6 @@ pub fn stream<O, I, W>(
     out: &mut W,
     recalls: Recalls,
 ) -> Result<u8, Fault>
-where
-    O: Opener,
-    I: Read,
-    W: Write,
     ensures few { IfOk result (λ status. status ≤ 1) }
     ensures ends { words.entry.file ≡ None → EndsStream (coming_from_reader (I.remaining input.old)) (W.contents out.old) (W.contents out.new) (end_status result) }
 {
