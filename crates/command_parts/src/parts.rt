@@ -6,10 +6,11 @@ ghost use Rattle.command_parts.specs.Counting.{IsCounted, IsLongText};
 
 use crate::files::Written;
 use crate::labels::PartLabels;
+use crate::reading::part_fault;
 use crate::writing::{Beside, PartFiles};
 use command_inputs::{Fault, Opener, cut_of, opened, read_standing, write_answer};
 use command_requests::PartsWords;
-use pmt_parts::give_parts;
+use pmt_parts::{Stop, give_parts};
 use std::alloc::Global;
 use std::io::{Read, Write};
 
@@ -101,12 +102,16 @@ fn cut_reader<O: Opener, L: Read + Drop, R: Read + Drop>(
 ) -> Result<(), Fault>
     ensures { OnOk result ((parts : List Part) × IsCutText words.now.ignored.items words.now.overlap (R.remaining reader) parts × (IsCounted [] taker.old.written → IsCounted parts taker.new.written)) }
 {
-    give_parts(
+    match give_parts(
         alloc,
         reader,
         words.events,
         words.overlap,
         words.ignored.as_slice(),
         taker,
-    )
+    ) {
+        Ok(()) => Ok(()),
+        Err(Stop::Taker(fault)) => Err(fault),
+        Err(Stop::Text(error)) => Err(part_fault(alloc, words, error)),
+    }
 }

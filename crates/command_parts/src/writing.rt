@@ -5,11 +5,10 @@ ghost use Rattle.command_parts.specs.Counting.{IsCounted};
 use crate::carried::check_carried;
 use crate::files::{Turn, Written, write_part};
 use crate::labels::PartLabels;
-use crate::reading::part_fault;
 use command_inputs::{Fault, Opener};
 use command_requests::PartsWords;
 use pmt_asked::Cut;
-use pmt_parts::{Part, PartError, PartTaker};
+use pmt_parts::{Part, PartTaker};
 use std::alloc::Global;
 use std::io::Read;
 
@@ -74,9 +73,5 @@ impl<O: Opener, R: Read + Drop> PartTaker for PartFiles<'_, O, R> {
         check_carried(alloc, self.words, next)?;
         self.beside.labels.keep(alloc, next.numbers.as_slice())?;
         Ok(())
-    }
-
-    fn fault(&self, alloc: Global, error: PartError) -> Fault {
-        part_fault(alloc, self.words, error)
     }
 }

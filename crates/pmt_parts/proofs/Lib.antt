@@ -12,3 +12,4 @@ pub mod PieceLemmas
 pub mod TextLemmas
 pub mod AnsweredLemmas
 pub mod RunLemmas
+pub mod StopLemmas

@@ -8,3 +8,4 @@ pub mod Aside
 pub mod Laws
 pub mod Runs
 pub mod Running
+pub mod Stopping

@@ -18,4 +18,4 @@ pub use crate::aside::set_aside;
 pub use crate::part::{Part, number_at, place_in};
 pub use crate::pieces::{PieceError, Pieces};
 pub use crate::run::give_parts;
-pub use crate::taker::{PartError, PartTaker, Refusal};
+pub use crate::taker::{PartError, PartTaker, Refusal, Stop};

@@ -1,10 +1,11 @@
 //! Reading the events of a part from a text of any length.
-ghost use Rattle.std.specs.Prelude.{◌≡◌, List, [], ℕ, IfOk, OnOk};
+ghost use Rattle.std.specs.Prelude.{◌≡◌, List, [], ℕ, IfOk, IfErr, OnOk};
 ghost use Rattle.pmt_asked.specs.declared.ignoring.ByteRange.{ByteRange};
 ghost use Rattle.pmt_text.specs.Spelling.{spelling};
 ghost use Rattle.pmt_parts.specs.Reading.{coming};
 ghost use Rattle.pmt_parts.specs.Running.{Extends, IsCutSoFar, ReadsOn};
 ghost use Rattle.pmt_parts.specs.Runs.{KeepsTo};
+ghost use Rattle.pmt_parts.specs.Stopping.{IsRefusedBehind, IsRefusedPast, IsRefusedText, RefusedAs};
 
 use crate::taker::{PartError, Refusal};
 use crate::{Part, Pieces};
@@ -21,6 +22,7 @@ pub(crate) fn first_part<R: Read>(
 ) -> Result<Part, PartError>
     ensures few { IfOk result (KeepsTo most) }
     ensures cut { IfOk result (λ part. (ranges : List ByteRange) (overlap : ℕ) → IsCutSoFar ranges overlap (coming R.remaining pieces.old) (coming R.remaining pieces.new) [] part) }
+    ensures refused { IfErr result (RefusedAs (IsRefusedBehind [] (coming R.remaining pieces.old) 0)) }
 {
     let mut text = Vec::new(alloc);
     pieces.add_to(&mut text, most.saturating_add(1))?;
@@ -37,7 +39,8 @@ pub(crate) fn read_on<R: Read>(
     most: u64,
     part: &mut Part,
 ) -> Result<(), PartError>
-    ensures { OnOk result (ReadsOn most (coming R.remaining pieces.old) (coming R.remaining pieces.new) part.old part.new) }
+    ensures read { OnOk result (ReadsOn most (coming R.remaining pieces.old) (coming R.remaining pieces.new) part.old part.new) }
+    ensures refused { IfErr result (RefusedAs (IsRefusedPast part.old (coming R.remaining pieces.old))) }
 {
     let mut text = Vec::new(alloc);
     push_header(&mut text, part.trace.format())?;
@@ -49,7 +52,8 @@ pub(crate) fn read_on<R: Read>(
 
 // The events of this text, the header and lines that so many events stand before.
 fn events_of(alloc: Global, text: Vec<u8>, before: u64) -> Result<Trace, PartError>
-    ensures { IfOk result (λ block. text.items ≡ spelling block) }
+    ensures spelled { IfOk result (λ block. text.items ≡ spelling block) }
+    ensures refused { IfErr result (RefusedAs (IsRefusedText text.items before)) }
 {
     match read_trace(alloc, text.as_slice()) {
         Ok(block) => Ok(block),
@@ -64,7 +68,8 @@ fn events_of(alloc: Global, text: Vec<u8>, before: u64) -> Result<Trace, PartErr
 
 // Adds the events to the part.
 fn extend(part: &mut Part, block: &Trace) -> Result<(), PartError>
-    ensures { OnOk result (Extends part.old block.now part.new) }
+    ensures extends { OnOk result (Extends part.old block.now part.new) }
+    ensures refused { IfErr result (RefusedAs (λ _. ⊥)) }
 {
     if !part.takes(block) {
         return Err(PartError::TooMany);

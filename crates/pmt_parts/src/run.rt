@@ -1,15 +1,16 @@
 //! The run from the first part of a text to its last.
-ghost use Rattle.std.specs.Prelude.{◌≡◌, List, [], ◌∷◌, ◌++◌, ℕ, Option, true, false, IfOk, OnOk};
+ghost use Rattle.std.specs.Prelude.{◌≡◌, List, [], ◌∷◌, ◌++◌, ℕ, Option, true, false, IfOk, IfErr, OnOk};
 ghost use Rattle.std.specs.List.{AllByRecursion};
 ghost use Rattle.std.specs.Io.KnownBytes.{IsAtEnd, Keeps};
 ghost use Rattle.pmt_parts.specs.declared.part.Part.{Part};
 ghost use Rattle.pmt_parts.specs.Reading.{coming};
 ghost use Rattle.pmt_parts.specs.Runs.{IsCutText, KeepsTo};
 ghost use Rattle.pmt_parts.specs.Running.{IsCutSoFar};
+ghost use Rattle.pmt_parts.specs.Stopping.{IsRefusedAfter, IsRefusedPast, RefusedAs, StopsAs};
 
 use crate::part::next_part;
 use crate::reading::{first_part, read_on};
-use crate::taker::{PartError, PartTaker};
+use crate::taker::{PartError, PartTaker, Stop};
 use crate::{Part, Pieces};
 use pmt_asked::ByteRange;
 use std::alloc::Global;
@@ -20,8 +21,8 @@ use std::io::Read;
 /// before it begins; stores all of whose bytes lie in the ranges are not carried.
 ///
 /// # Errors
-/// The taker's fault; or its fault for a read, for the first line that is refused, for more events than are counted, or for want of memory.
-/// The taker has the parts before it then.
+/// `Taker` with the taker's own fault. `Text` for a failed read, for the first line that is refused, for more events than are counted, or for
+/// want of memory: the taker has the parts before it then.
 pub fn give_parts<R: Read + Drop, S: PartTaker>(
     alloc: Global,
     input: R,
@@ -29,13 +30,14 @@ pub fn give_parts<R: Read + Drop, S: PartTaker>(
     overlap: u64,
     ignored: &[ByteRange],
     taker: &mut S,
-) -> Result<(), S::Fault>
-    ensures { OnOk result ((parts : List Part) × IsCutText ignored.now overlap (R.remaining input) parts × (S.took [] false taker.old → S.took parts true taker.new) × AllByRecursion (KeepsTo most) parts) }
+) -> Result<(), Stop<S::Fault>>
+    ensures all { OnOk result ((parts : List Part) × IsCutText ignored.now overlap (R.remaining input) parts × (S.took [] false taker.old → S.took parts true taker.new) × AllByRecursion (KeepsTo most) parts) }
+    ensures stops { IfErr result (StopsAs (λ e. (parts : List Part) × (S.took [] false taker.old → S.took parts false taker.new) × RefusedAs (IsRefusedAfter ignored.now overlap (R.remaining input) parts) e)) }
 {
     let mut pieces = Pieces::new(input);
     let mut part = match first_part(alloc, &mut pieces, most) {
         Ok(part) => part,
-        Err(error) => return Err(taker.fault(alloc, error)),
+        Err(error) => return Err(Stop::Text(error)),
     };
     for _ in 0..u64::MAX {
         if hand_on(alloc, &mut pieces, &part, taker)? {
@@ -43,7 +45,7 @@ pub fn give_parts<R: Read + Drop, S: PartTaker>(
         }
         part = part_after(alloc, &mut pieces, &part, most, overlap, ignored, taker)?;
     }
-    Err(taker.fault(alloc, PartError::TooMany))
+    Err(Stop::Text(PartError::TooMany))
 }
 
 // Gives the part to the taker, and says whether it is the last one.
@@ -52,17 +54,20 @@ fn hand_on<R: Read, S: PartTaker>(
     pieces: &mut Pieces<R>,
     part: &Part,
     taker: &mut S,
-) -> Result<bool, S::Fault>
+) -> Result<bool, Stop<S::Fault>>
     ensures kept { OnOk result (Keeps (coming R.remaining pieces.old) (coming R.remaining pieces.new)) }
     ensures end { IfOk result (λ is_last. is_last ≡ true → IsAtEnd (coming R.remaining pieces.new)) }
+    ensures stops { IfErr result (StopsAs (λ e. RefusedAs (λ _. ⊥) e × ((parts : List Part) → S.took parts false taker.old → S.took parts false taker.new))) }
     ensures took { IfOk result (λ is_last. (parts : List Part) → S.took parts false taker.old → S.took (parts ++ part.now ∷ []) is_last taker.new) }
 {
     let is_last = match pieces.is_at_end() {
         Ok(is_last) => is_last,
-        Err(error) => return Err(taker.fault(alloc, PartError::from(error))),
+        Err(error) => return Err(Stop::Text(PartError::from(error))),
     };
-    taker.take(alloc, part, is_last)?;
-    Ok(is_last)
+    match taker.take(alloc, part, is_last) {
+        Ok(()) => Ok(is_last),
+        Err(fault) => Err(Stop::Taker(fault)),
+    }
 }
 
 // The part after this one.
@@ -74,18 +79,21 @@ fn part_after<R: Read, S: PartTaker>(
     overlap: u64,
     ignored: &[ByteRange],
     taker: &mut S,
-) -> Result<Part, S::Fault>
+) -> Result<Part, Stop<S::Fault>>
     ensures part { IfOk result (λ next. (old : Option (List ℕ)) (parts : List Part) → IsCutSoFar ignored.now overlap old (coming R.remaining pieces.old) parts part.now → IsCutSoFar ignored.now overlap old (coming R.remaining pieces.new) (parts ++ part.now ∷ []) next) }
     ensures few { IfOk result (KeepsTo most) }
     ensures took { OnOk result ((parts : List Part) → S.took parts false taker.old → S.took parts false taker.new) }
+    ensures stops { IfErr result (StopsAs (λ e. RefusedAs (IsRefusedPast part.now (coming R.remaining pieces.old)) e × ((parts : List Part) → S.took parts false taker.old → S.took parts false taker.new))) }
 {
     let mut next = match next_part(alloc, part, overlap, ignored) {
         Ok(next) => next,
-        Err(_) => return Err(taker.fault(alloc, PartError::OutOfMemory)),
+        Err(_) => return Err(Stop::Text(PartError::OutOfMemory)),
     };
-    taker.begin(alloc, &next)?;
+    if let Err(fault) = taker.begin(alloc, &next) {
+        return Err(Stop::Taker(fault));
+    }
     match read_on(alloc, pieces, most, &mut next) {
         Ok(()) => Ok(next),
-        Err(error) => Err(taker.fault(alloc, error)),
+        Err(error) => Err(Stop::Text(error)),
     }
 }

@@ -1,6 +1,7 @@
 //! What takes the parts of a text, and why no more of them are made.
 ghost use Rattle.std.specs.Prelude.{List, [], ◌∷◌, ◌++◌, Bool, false, OnOk};
 ghost use Rattle.pmt_parts.specs.declared.part.Part.{Part};
+ghost use Rattle.pmt_parts.specs.Stopping.{RefusedAs};
 
 use crate::{Part, PieceError};
 use pmt_text::TextError;
@@ -28,9 +29,15 @@ pub trait PartTaker {
     /// Its own fault, which ends the run.
     fn begin(&mut self, alloc: Global, next: &Part) -> Result<(), Self::Fault>
         ensures { OnOk result ((parts : List Part) → took parts false self.old → took parts false self.new) };
+}
 
-    /// Its own fault for a text that is cut no further for this.
-    fn fault(&self, alloc: Global, error: PartError) -> Self::Fault;
+/// Why a run ends before its text does.
+#[derive(Drop)]
+pub enum Stop<F> {
+    /// The taker's own fault.
+    Taker(F),
+    /// No more parts are made of the text.
+    Text(PartError),
 }
 
 /// Why no more parts are made of a text.
@@ -58,6 +65,8 @@ pub struct Refusal {
 }
 
 impl From<PieceError> for PartError {
+    ghost from_gives = { λ _ error. RefusedAs (λ _. ⊥) error };
+
     fn from(error: PieceError) -> Self {
         match error {
             PieceError::Read(error) => PartError::Read(error),
@@ -67,6 +76,8 @@ impl From<PieceError> for PartError {
 }
 
 impl From<AllocError> for PartError {
+    ghost from_gives = { λ _ error. RefusedAs (λ _. ⊥) error };
+
     fn from(_refused: AllocError) -> Self {
         PartError::OutOfMemory
     }
