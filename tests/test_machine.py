@@ -1,4 +1,4 @@
-"""Compares the program with a literal enumeration of the machine (lib/machine.py), on small random traces, the same each time."""
+"""Compares the program with a literal enumeration of the machine (oracles/machine.py), on small random traces, the same each time."""
 import itertools
 import random
 import subprocess
