@@ -1757,9 +1757,14 @@ PMTRACE_UNSANITIZED_ static uint64_t pmtrace_load_(uintptr_t at) {
     return __atomic_load_n((const volatile pmtrace_bytes8_ *)at, __ATOMIC_RELAXED);
 }
 
-/* Notes as a store what changed in a part of a word. */
+/* Notes as a store what changed in the word that a piece lies in, as far as the pool goes: what a mapping ends inside of would be noted
+ * by halves. The memory behind it is the file's, up to the end of a page. */
 static void pmtrace_notice_word_(const pmtrace_pool_ *pool, pmtrace_range_ piece) {
-    size_t into_word = (size_t)(piece.from % PMTRACE_WORD_BYTES_), first = into_word, end = first + (size_t)piece.length;
+    size_t into_word = (size_t)(piece.from % PMTRACE_WORD_BYTES_), first = 0, end = PMTRACE_WORD_BYTES_;
+    if (pool->from > piece.from - into_word)
+        first = (size_t)(pool->from - (piece.from - into_word));
+    if (pool->end < piece.from - into_word + end)
+        end = (size_t)(pool->end - (piece.from - into_word));
     uint64_t word = pmtrace_load_(piece.at - into_word);
     unsigned char now[PMTRACE_WORD_BYTES_], *before = pmtrace_copied_(pool, piece.from - into_word);
     memcpy(now, &word, sizeof now);

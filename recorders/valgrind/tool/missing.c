@@ -34,7 +34,7 @@ Int find_missing(Missing all[MOST_MISSING]) {
     const Missing known[] = {
         {event_counts.before, OTHERS, "events before the window", ""},
         {event_counts.after, OTHERS, "events after the window", ""},
-        {event_counts.missing, BYTES, "events after the end of the trace", ""},
+        {event_counts.missing, OTHERS, "events after the end of the trace", ""},
         {notes.other_flushes, OTHERS, "flushes of memory that is in no pool", first_flush()},
         {notes.behind_end, OTHERS, "stores behind the end of a pool's file", ""},
         {notes.locked, FENCES, "locked instructions as fences after flushes (--locked-fences notes them)", ""},
