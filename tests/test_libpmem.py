@@ -186,12 +186,18 @@ class Libpmem(Recording):
             self.expect(f"{call} is found", built == (0, "") and "libpmem" not in run_as_shown(["objdump", "-p", probe])[1], built)
 
     def test_labels_of_tail_calls(self):
-        """The label is where the call returns to."""
-        for flags, wanted in (([], "here its caller is"), (["-fno-optimize-sibling-calls"], "here it is called")):
+        """The label is where the call returns to, with the function, and of an inlined one with its caller."""
+        inlined = "save < main tests/recorders/libpmem/tails.c:20"
+        for flags, wanted, function in (
+            ([], "here its caller is", "main"),
+            (["-fno-optimize-sibling-calls"], "here it is called", "save"),
+            (["-DAPART="], "here it is called", inlined),
+        ):
             pool = self.new_folder() / "pool"
             self.runs("tails", [self.build(HERE / "tails.c", flags=["-O2", *flags]), pool])
-            sources = [source_of(label) for label in self.labels(pool.with_name("pool.trace"))]
-            self.expect(f"tails: {wanted}", len(sources) == 3 and all(wanted in source for source in sources), sources)
+            labels = self.labels(pool.with_name("pool.trace"))
+            right = len(labels) == 3 and all(wanted in source_of(label) and label.partition(" ")[2] == function for label in labels)
+            self.expect(f"tails: {wanted}, {function}", right, labels)
 
     def test_what_is_not_recorded_is_refused(self):
         """What can't be recorded is refused by name."""

@@ -6,7 +6,6 @@ tests/recorders/programs do, or is the memory's last bytes.
 import json
 import re
 
-from broken import joined
 from documents import expect_shown
 from needs import need
 from program import TOP
@@ -16,6 +15,7 @@ from recorder_parts import PartTests  # noqa: F401
 from recorder_threads import ThreadTests  # noqa: F401
 from recording import AS_C, AS_CPP, CARGO, HEADERS, PROGRAMS, Recording, labels_of, source_of, text_of
 from running import run_as_shown
+from screened import ROW
 
 # What calls.c does. The pool begins 24 = 0x18 bytes into a line.
 CALLS = """\
@@ -89,10 +89,10 @@ class RecorderTests(Recording):
             self.expect(f"calls as {name}", (status, told) == (0, refused), f"{status} {told}")
             self.expect(f"the trace of calls as {name}", text_of(trace) == CALLS, text_of(trace))
             self.report(trace)
-            labels = [source_of(label) for label in labels_of(trace).values()]
+            labels = labels_of(trace).values()
             wanted = [piece for count, piece in CALLED for _ in range(count)]
-            right = len(labels) == len(wanted) and all(piece in label for piece, label in zip(wanted, labels))
-            self.expect(f"the labels of calls as {name}", right, labels)
+            right = len(labels) == len(wanted) and all(piece in source_of(label) for piece, label in zip(wanted, labels))
+            self.expect(f"the labels of calls as {name}", right and all(label.endswith(" main") for label in labels), labels)
 
     def test_off_costs_nothing(self):
         """Without the recorder the same instructions are there as by hand."""
@@ -157,13 +157,12 @@ class RecorderTests(Recording):
             return
         after = failure["cause"]["flush"] if failure["cause"]["cause"] == "unfenced" else failure["lost"]["store"]
         before = failure["kept"]["store"]
-        file, first = after["label"].rsplit(":", 1)
-        last = before["label"].rsplit(":", 1)[1]
+        (file, first), (_, last) = (event["label"].partition(" ")[0].rsplit(":", 1) for event in (after, before))
         between = (TOP / file).read_text().splitlines()[int(first) : int(last) - 1]
         self.expect(f"{what}: the line at fault", len(between) < 6 and fault in map(str.strip, between), between)
-        text = "\n".join(joined(run_as_shown([*words, "--failure", failure["event"]["event"]])[1].splitlines()))
-        named = [event["label"] in text and event["words"] in text for event in (failure["event"], after, before)]
-        self.expect(f"{what}: the text names these lines", all(named), text[:200])
+        text = run_as_shown([*words, "--failure", failure["event"]["event"]])[1]
+        rows = {int(row["event"]) for row in map(ROW.match, text.splitlines()) if row}
+        self.expect(f"{what}: the text has these events", rows >= {event["event"] for event in (failure["event"], after, before)}, text)
 
     def test_page_shows_what_is_written(self):
         """The commands that recorders/README.md shows."""

@@ -3,6 +3,7 @@
 The program must accept every trace. What else must stand in it is written out here, follows from what the programs of
 tests/recorders/valgrind do, is the file's last bytes, or is what pmtrace.h wrote of the same program.
 """
+import json
 import re
 import resource
 import shutil
@@ -16,7 +17,7 @@ from running import ended_by, run, unignore, wait_until
 from valgrind_places import Places  # noqa: F401  (the runner runs what stands here)
 from valgrind_processes import Processes  # noqa: F401
 from valgrind_runs import FOLDER, RECORD, SOURCES, Recorded, drawn
-from valgrind_texts import CLAIMED, FINISHED, FIRST_LABELS, FLUSHES, FORMATTED, LABELS, LOCKED_FLUSHES, SYSTEM, WATCHED, saved, saved_value
+from valgrind_texts import CLAIMED, FINISHED, FIRST_LABELS, FLUSHES, FORMATTED, INLINED_LABELS, LABELS, LOCKED_FLUSHES, SYSTEM, WATCHED, saved, saved_value
 from valgrind_threads import Threads  # noqa: F401
 from valgrind_windows import Windows  # noqa: F401
 
@@ -146,10 +147,9 @@ class Valgrind(Recorded):
         self.expect("--pmdk: what was freed", "1 range of that kind was freed or used again, and is not ignored\n" in faults, faults)
         self.expect("--pmdk: the next command", f"--ignore-file {ignore} {trace}\n" in faults, faults)
         words = [f"--ignore {line}" for line in text_of(ignore).splitlines()]
-        status, told, _ = run([self.program, "explain", *" ".join(words).split(), trace])
-        self.expect("what is ignored", status == 1 and "never persisted" in told, told[:300])
-        lost = re.search(r"lose: (\d+) of (\d+)", told)
-        self.expect("what is not ignored", lost is not None and lost.groups() == ("2", "6"), told[:300])
+        told = run([self.program, "explain", "--json", *" ".join(words).split(), trace]).out
+        counts = json.loads(told.splitlines()[0])
+        self.expect_equal("what is not ignored", (counts["never_persisted"], counts["stores"]), (2, 6))
 
     # Ends
 
@@ -274,6 +274,12 @@ class Valgrind(Recorded):
             right = len(labels) == len(events_of(same)) and labels[0].startswith(f"1 {wanted}")
             self.expect(f"{name}: labels", right, labels[:2])
         self.labelled("first", self.build("first"), FIRST_LABELS)
+
+    def test_labels_of_inlined_functions(self):
+        """A store, a flush and a fence have the line that asks for them. What a header of the system inlines has its caller's."""
+        self.labelled("inlined", self.build("inlined"), INLINED_LABELS)
+        fortified = self.build("lines.fortified", "-D_FORTIFY_SOURCE=2", "-Wno-unused-result", source=SOURCES / "lines.c")
+        self.labelled("lines", fortified, LABELS)
 
     def labelled(self, name, program, chains):
         """A program's trace, and its labels, in which lines are told by the comments that stand there."""

@@ -25,7 +25,7 @@
  *
  * Macros, to be defined before the include:
  *   PMTRACE_LABELS   where pmtrace_open is called, and in each file whose source lines are wanted: FILE.labels, beside the trace,
- *                    has a line `EVENT FILE:LINE` for each event, by its number and the source line of its call
+ *                    has a line `EVENT FILE:LINE FUNCTION` for each event, by its number and where its call stands
  *   PMTRACE_OFF      nothing is recorded and nothing is linked; stores and copies are done as by hand
  */
 #ifndef PMTRACE_H
@@ -46,10 +46,10 @@
 #define PMTRACE_TEXT_OF_(number) #number
 #define PMTRACE_TEXT_(number) PMTRACE_TEXT_OF_(number)
 
-/* The label of a call: its source line, or none. The functions whose names end in _at take a label, for an engine's own helpers
- * that hand on where they were called. A label is a text of one line. */
-#ifdef PMTRACE_LABELS
-#define PMTRACE_HERE __FILE__ ":" PMTRACE_TEXT_(__LINE__)
+/* The label of a call: its source line, by which the function is known too, or none. The functions whose names end in _at take a
+ * label, for an engine's own helpers that hand on where they were called. A label is a text of one line. */
+#if defined PMTRACE_LABELS && !defined PMTRACE_OFF
+#define PMTRACE_HERE pmtrace_in_(__FILE__ ":" PMTRACE_TEXT_(__LINE__), __builtin_FUNCTION())
 #else
 #define PMTRACE_HERE ((const char *)0)
 #endif
@@ -367,6 +367,9 @@ static inline void pmtrace_set_(volatile void *to, const void *from, size_t size
 }
 
 #ifndef PMTRACE_OFF
+
+/* Notes in which function a line stands. Answers the line. */
+const char *pmtrace_in_(const char *line, const char *function);
 
 int pmtrace_open_at(const char *label, const char *file, const void *base, size_t length, unsigned line_size);
 int pmtrace_forget_at(const char *label, const void *start, size_t length);
@@ -1051,6 +1054,54 @@ static bool pmtrace_has_number_(void) {
     return true;
 }
 
+/* --- the functions of lines --- */
+
+/* How many lines have room, and among how many of them one is looked for. */
+enum { PMTRACE_MOST_SITES_ = 1 << 13, PMTRACE_MOST_TRIES_ = 32 };
+
+/* The text of a line as PMTRACE_HERE has it, by whose address it is found, and the function that the line stands in. */
+typedef struct pmtrace_site_ {
+    const char *line, *function;
+} pmtrace_site_;
+
+/* Any thread adds to them, without the lock. They stay; without room a function is not known. */
+static pmtrace_site_ pmtrace_sites_[PMTRACE_MOST_SITES_];
+
+/* Where the line stands or is to stand; NULL without room. */
+static pmtrace_site_ *pmtrace_site_of_(const char *line) {
+    uintptr_t first = (uintptr_t)line ^ (uintptr_t)line / PMTRACE_MOST_SITES_;
+    for (unsigned tried = 0; tried < PMTRACE_MOST_TRIES_; tried++) {
+        pmtrace_site_ *site = &pmtrace_sites_[(first + tried) % PMTRACE_MOST_SITES_];
+        const char *there = __atomic_load_n(&site->line, __ATOMIC_RELAXED);
+        if (there == line || there == NULL)
+            return site;
+    }
+    return NULL;
+}
+
+/* Whether the line stands there, where it gets the room if that is free. */
+static bool pmtrace_take_site_(pmtrace_site_ *site, const char *line) {
+    const char *there = __atomic_load_n(&site->line, __ATOMIC_RELAXED);
+    bool taken = there == NULL && __atomic_compare_exchange_n(&site->line, &there, line, false, __ATOMIC_RELAXED, __ATOMIC_RELAXED);
+    return taken || there == line;
+}
+
+const char *pmtrace_in_(const char *line, const char *function) {
+    pmtrace_site_ *site = pmtrace_site_of_(line);
+    while (site != NULL && !pmtrace_take_site_(site, line))
+        site = pmtrace_site_of_(line);
+    if (site != NULL && __atomic_load_n(&site->function, __ATOMIC_RELAXED) != function)
+        __atomic_store_n(&site->function, function, __ATOMIC_RELAXED);
+    return line;
+}
+
+/* The function that a label's line stands in; NULL of a label that is no such line. */
+static const char *pmtrace_function_of_(const char *label) {
+    const pmtrace_site_ *site = pmtrace_site_of_(label);
+    bool known = site != NULL && __atomic_load_n(&site->line, __ATOMIC_RELAXED) == label;
+    return known ? __atomic_load_n(&site->function, __ATOMIC_RELAXED) : NULL;
+}
+
 /* --- spelling --- */
 
 /* Each of these puts bytes at a place, and answers the place behind them. */
@@ -1164,13 +1215,19 @@ static char *pmtrace_begin_(const char *word) {
 }
 
 static void pmtrace_put_event_label_(void) {
-    if (!pmtrace_has_room_(&pmtrace_.labels, PMTRACE_LONGEST_LINE_ + PMTRACE_MOST_LABEL_)) {
+    const char *function = pmtrace_function_of_(pmtrace_.label);
+    if (!pmtrace_has_room_(&pmtrace_.labels, PMTRACE_LONGEST_LINE_ + 2 * PMTRACE_MOST_LABEL_)) {
         pmtrace_lose_labels_();
         return;
     }
     char *at = pmtrace_put_number_(pmtrace_.labels.room + pmtrace_.labels.used, pmtrace_.events);
     *at++ = ' ';
-    pmtrace_put_end_(&pmtrace_.labels, pmtrace_put_label_(at, pmtrace_.label));
+    at = pmtrace_put_label_(at, pmtrace_.label);
+    if (function != NULL && function[0] != '\0') {
+        *at++ = ' ';
+        at = pmtrace_put_label_(at, function);
+    }
+    pmtrace_put_end_(&pmtrace_.labels, at);
 }
 
 /* Ends the event's line, and notes its label. */

@@ -67,7 +67,7 @@ def labels_of(path):
 @functools.cache
 def source_of(label):
     """The source line that a label names, or the label. Rust's compiler names files from the crate on."""
-    name, _, number = label.rpartition(":")
+    name, _, number = label.partition(" ")[0].rpartition(":")
     path = next((folder / name for folder in (TOP, PROGRAMS / "rust") if (folder / name).is_file()), None)
     return path.read_text().splitlines()[int(number) - 1] if path and number.isdigit() else label
 

@@ -90,10 +90,22 @@ CHANGE = "change {{{}}} < main {{calls change}}"
 FIRST_LABELS = [
     ("stores", "store_first < " + CHANGE.format("calls store_first")),
     ("stores", "store_first < " + CHANGE.format("calls it again")),
-    ("flushes", "flush_first < " + CHANGE.format("calls flush_first")),
-    ("fences", "fence_first < " + CHANGE.format("calls fence_first")),
-    ("flushes in a frame", "flush_second < " + CHANGE.format("calls flush_second")),
-    ("fences", "fence_first < flush_second {calls fence_first in a frame} < " + CHANGE.format("calls flush_second")),
+    # `change` has stored by what it called
+    *((f"calls {called}", "change < main {calls change}") for called in ("flush_first", "fence_first", "flush_second")),
+]
+APPEND = "append < main {calls append}"
+INLINED_LABELS = [
+    # the compiler gives these stores the lines of the returns in inlined functions
+    ("sums", APPEND),
+    ("sums twice", APPEND),
+    ("sets", "set_next < append {calls set_next} < main {calls append}"),
+    ("saves", APPEND),
+    # at first `change` has not stored
+    ("calls change", "main"),
+    ("changes", "change < main {calls change}"),
+    ("saves what is there", "change < main {calls change}"),
+    # `save` stores nowhere, and `persist` has flushed for others
+    ("saves in a thread", "save"),
 ]
 
 

@@ -111,13 +111,19 @@ static char *pmtrace_begin_(const char *word) {
 }
 
 static void pmtrace_put_event_label_(void) {
-    if (!pmtrace_has_room_(&pmtrace_.labels, PMTRACE_LONGEST_LINE_ + PMTRACE_MOST_LABEL_)) {
+    const char *function = pmtrace_function_of_(pmtrace_.label);
+    if (!pmtrace_has_room_(&pmtrace_.labels, PMTRACE_LONGEST_LINE_ + 2 * PMTRACE_MOST_LABEL_)) {
         pmtrace_lose_labels_();
         return;
     }
     char *at = pmtrace_put_number_(pmtrace_.labels.room + pmtrace_.labels.used, pmtrace_.events);
     *at++ = ' ';
-    pmtrace_put_end_(&pmtrace_.labels, pmtrace_put_label_(at, pmtrace_.label));
+    at = pmtrace_put_label_(at, pmtrace_.label);
+    if (function != NULL && function[0] != '\0') {
+        *at++ = ' ';
+        at = pmtrace_put_label_(at, function);
+    }
+    pmtrace_put_end_(&pmtrace_.labels, at);
 }
 
 /* Ends the event's line, and notes its label. */

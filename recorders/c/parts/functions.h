@@ -1,3 +1,6 @@
+/* Notes in which function a line stands. Answers the line. */
+const char *pmtrace_in_(const char *line, const char *function);
+
 int pmtrace_open_at(const char *label, const char *file, const void *base, size_t length, unsigned line_size);
 int pmtrace_forget_at(const char *label, const void *start, size_t length);
 int pmtrace_close_at(const char *label);

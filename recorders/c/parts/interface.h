@@ -25,7 +25,7 @@
  *
  * Macros, to be defined before the include:
  *   PMTRACE_LABELS   where pmtrace_open is called, and in each file whose source lines are wanted: FILE.labels, beside the trace,
- *                    has a line `EVENT FILE:LINE` for each event, by its number and the source line of its call
+ *                    has a line `EVENT FILE:LINE FUNCTION` for each event, by its number and where its call stands
  *   PMTRACE_OFF      nothing is recorded and nothing is linked; stores and copies are done as by hand
  */
 #ifndef PMTRACE_H
@@ -46,10 +46,10 @@
 #define PMTRACE_TEXT_OF_(number) #number
 #define PMTRACE_TEXT_(number) PMTRACE_TEXT_OF_(number)
 
-/* The label of a call: its source line, or none. The functions whose names end in _at take a label, for an engine's own helpers
- * that hand on where they were called. A label is a text of one line. */
-#ifdef PMTRACE_LABELS
-#define PMTRACE_HERE __FILE__ ":" PMTRACE_TEXT_(__LINE__)
+/* The label of a call: its source line, by which the function is known too, or none. The functions whose names end in _at take a
+ * label, for an engine's own helpers that hand on where they were called. A label is a text of one line. */
+#if defined PMTRACE_LABELS && !defined PMTRACE_OFF
+#define PMTRACE_HERE pmtrace_in_(__FILE__ ":" PMTRACE_TEXT_(__LINE__), __builtin_FUNCTION())
 #else
 #define PMTRACE_HERE ((const char *)0)
 #endif

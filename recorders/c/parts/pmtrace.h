@@ -31,6 +31,8 @@
 
 #include "threads.h"
 
+#include "sites.h"
+
 #include "events.h"
 
 #include "pools.h"

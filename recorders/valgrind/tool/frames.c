@@ -1,9 +1,19 @@
 #include "frames.h"
 
-/* Whether a source file belongs to the compiler, as the header that has _mm_clwb, and those of C++. */
-static Bool is_compilers(const HChar *path) {
-    return VG_(strstr)(path, "/lib/gcc/") != NULL || VG_(strstr)(path, "/lib/clang/") != NULL ||
-           VG_(strstr)(path, "/lib/llvm") != NULL || VG_(strstr)(path, "/include/c++/") != NULL;
+static Bool begins_with_one(const HChar *path, const HChar *const *beginnings, SizeT count) {
+    SizeT at;
+    for (at = 0; at < count; at++)
+        if (VG_(strncmp)(path, beginnings[at], VG_(strlen)(beginnings[at])) == 0)
+            return True;
+    return False;
+}
+
+/* Whether a source file belongs to the system or the compiler, as the header that has memcpy or _mm_clwb, and those of C++ and Rust. */
+static Bool is_of_system(const HChar *path) {
+    static const HChar *const folders[] = {"/usr/include/", "/rustc/", "/usr/src/rustc"};
+    return begins_with_one(path, folders, sizeof folders / sizeof *folders) || VG_(strstr)(path, "/lib/gcc/") != NULL ||
+           VG_(strstr)(path, "/lib/clang/") != NULL || VG_(strstr)(path, "/lib/llvm") != NULL ||
+           VG_(strstr)(path, "/include/c++/") != NULL || VG_(strstr)(path, "/lib/rustlib/") != NULL;
 }
 
 Bool is_in_object(Addr address) {
@@ -14,14 +24,18 @@ Bool is_in_object(Addr address) {
 Bool is_in_c_library(Addr address) {
     static const HChar *const names[] = {"libc.so", "libc-", "libpthread", "ld-linux", "libm.so", "vgpreload"};
     const HChar *path, *slash;
-    SizeT at;
     if (!VG_(get_objname)(VG_(current_DiEpoch)(), address, &path))
         return False;
     slash = VG_(strrchr)(path, '/');
-    for (at = 0; at < sizeof names / sizeof *names; at++)
-        if (VG_(strncmp)(slash == NULL ? path : slash + 1, names[at], VG_(strlen)(names[at])) == 0)
-            return True;
-    return False;
+    return begins_with_one(slash == NULL ? path : slash + 1, names, sizeof names / sizeof *names);
+}
+
+/* Whether an address is in a library of the system, or where PMDK is installed once it is built. */
+static Bool is_in_library(Addr address) {
+    static const HChar *const folders[] = {"/lib/", "/lib64/", "/usr/lib/", "/usr/lib64/", "/usr/local/lib/"};
+    const HChar *path;
+    return is_in_c_library(address) || (VG_(get_objname)(VG_(current_DiEpoch)(), address, &path) &&
+                                        begins_with_one(path, folders, sizeof folders / sizeof *folders));
 }
 
 static void copy(HChar *to, const HChar *from, SizeT room, SizeT length) {
@@ -76,8 +90,9 @@ static Bool read_frame(const HChar *described, Frame *frame) {
     function += 2;
     file = open + 1;
     SizeT length = VG_(strlen)(file);
-    if (length < 2 || file[length - 1] != ')' || VG_(strrchr)(file, ':') == NULL || is_compilers(file))
+    if (length < 2 || file[length - 1] != ')' || VG_(strrchr)(file, ':') == NULL || is_of_system(file))
         return False;
+    copy(frame->source, file, SOURCE_BYTES, length - 1);
     slash = VG_(strrchr)(file, '/');
     if (slash != NULL) {
         length -= (SizeT)(slash + 1 - file);
@@ -92,14 +107,16 @@ Int frames_at(Addr address, Frame frames[MOST_INLINED]) {
     DiEpoch epoch = VG_(current_DiEpoch)();
     InlIPCursor *cursor;
     Int count = 0;
-    if (is_in_c_library(address))
+    if (is_in_library(address))
         return 0;
     cursor = VG_(new_IIPC)(epoch, address);
     do {
         if (read_frame(VG_(describe_IP)(epoch, address, cursor), &frames[count]))
-            count++;
+            frames[count++].is_inlined = True;
     } while (VG_(next_IIPC)(cursor) && count < MOST_INLINED);
     VG_(delete_IIPC)(cursor);
+    if (count > 0)
+        frames[count - 1].is_inlined = False;
     return count;
 }
 

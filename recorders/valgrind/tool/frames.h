@@ -4,15 +4,16 @@
 
 #include "core.h"
 
-enum { MOST_INLINED = 12, FUNCTION_BYTES = 64, PLACE_BYTES = 96 };
+enum { MOST_INLINED = 12, FUNCTION_BYTES = 64, PLACE_BYTES = 96, SOURCE_BYTES = 512 };
 
-/* `list.c:20` and `flush_range`. */
+/* `list.c:20`, `flush_range` and `/src/list.c:20`; and whether it is inlined into the next frame. */
 typedef struct {
-    HChar place[PLACE_BYTES], function[FUNCTION_BYTES];
+    HChar place[PLACE_BYTES], function[FUNCTION_BYTES], source[SOURCE_BYTES];
+    Bool is_inlined;
 } Frame;
 
-/* The frames of an address that have source lines and are neither of the compiler's own headers nor of the C library, the
- * innermost first; how many. */
+/* The frames of an address that have source lines and are neither of the system's headers nor of its libraries, whose debug symbols
+ * may be installed, the innermost first; how many. */
 Int frames_at(Addr address, Frame frames[MOST_INLINED]);
 
 /* The function of an address without lines, `memmove_avx` or `libpmem.so.1+0x1234`. */

@@ -1,15 +1,19 @@
 #include "labels.h"
 #include "frames.h"
 #include "options.h"
+#include "returns.h"
 
-enum { TABLE_SIZE = 1 << 16, MOST_LABELS = TABLE_SIZE / 2, MOST_FRAMES = 24, MOST_SHOWN = 2 * MOST_FRAMES, LABEL_BYTES = 400, MOST_STORING = 4096 };
+enum { TABLE_SIZE = 1 << 16, MOST_LABELS = TABLE_SIZE / 2, MOST_FRAMES = 24, MOST_SHOWN = 2 * MOST_FRAMES, LABEL_BYTES = 400, MOST_NOTED = 4096 };
 
-/* A label by the addresses of its instruction and callers. */
+/* A label by the addresses of its instruction and callers. One that a function further in may yet begin, once it has stored, is made
+ * anew when more functions have. */
 typedef struct {
     ULong hash;
     Addr addresses[MOST_FRAMES];
     UInt count;
     const HChar *text;
+    Bool may_change;
+    Int storing; /* how many functions had stored when it was made */
 } Label;
 
 static Label *table[TABLE_SIZE];
@@ -61,9 +65,14 @@ static void append_frame(HChar *text, Int *length, const Frame *frame, Bool firs
     append(text, length, first ? "" : frame->place);
 }
 
-/* The functions that have stored, by sums of their names. */
-static ULong storing[MOST_STORING];
-static Int storing_count;
+/* Functions, by sums of their names. */
+typedef struct {
+    ULong sums[MOST_NOTED];
+    Int count;
+} Functions;
+
+/* Those that have stored, or called one that has; and those that flushed or fenced for one of these. */
+static Functions storing, helping;
 
 static ULong sum_of(const HChar *name) {
     ULong sum = 1;
@@ -72,23 +81,23 @@ static ULong sum_of(const HChar *name) {
     return sum;
 }
 
-static Bool has_stored(const Frame *frame) {
+static Bool has(const Functions *functions, const Frame *frame) {
     ULong sum = sum_of(frame->function);
     Int at;
-    for (at = 0; at < storing_count; at++)
-        if (storing[at] == sum)
+    for (at = 0; at < functions->count; at++)
+        if (functions->sums[at] == sum)
             return True;
     return False;
 }
 
-static void note_storing(const Frame *frame) {
-    if (!has_stored(frame) && storing_count < MOST_STORING)
-        storing[storing_count++] = sum_of(frame->function);
+static void note(Functions *functions, const Frame *frame) {
+    if (!has(functions, frame) && functions->count < MOST_NOTED)
+        functions->sums[functions->count++] = sum_of(frame->function);
 }
 
 /* The frames that have source lines, the innermost first, as many as a label may need; how many. */
 static Int frames_of(const Addr *addresses, UInt count, Frame *frames, Act act) {
-    Int most = act == SAVING ? MOST_SHOWN - MOST_INLINED : options.callers, found = 0;
+    Int most = act == CLAIMING ? options.callers : MOST_SHOWN - MOST_INLINED, found = 0;
     UInt at;
     for (at = 0; at < count && found <= most; at++)
         found += frames_at(addresses[at], &frames[found]);
@@ -97,6 +106,7 @@ static Int frames_of(const Addr *addresses, UInt count, Frame *frames, Act act) 
 
 static void set_symbol(Frame *frame, Addr address) {
     frame->place[0] = '\0';
+    frame->is_inlined = False;
     VG_(strncpy)(frame->function, symbol_at(address), FUNCTION_BYTES - 1);
     frame->function[FUNCTION_BYTES - 1] = '\0';
 }
@@ -113,28 +123,49 @@ static Int symbols_of(const Addr *addresses, UInt count, Frame *frames) {
     return found;
 }
 
+/* How many of the frames, the innermost first, come before one whose function is among these, or is not. */
+static Int count_until(Bool among, const Functions *functions, const Frame *frames, Int count) {
+    Int at = 0;
+    while (at < count && has(functions, &frames[at]) != among)
+        at++;
+    return at;
+}
+
 /* With which of the frames the label of a flush or fence begins. */
-static Int first_storing(const Frame *frames, Int count) {
-    Int at;
-    for (at = 0; at < count; at++)
-        if (has_stored(&frames[at]))
-            return at;
-    return 0;
+static Int first_saving(const Frame *frames, Int count) {
+    Int first = count_until(True, &storing, frames, count), at;
+    if (first == count)
+        return count_until(False, &helping, frames, count - 1);
+    for (at = 0; at < first; at++)
+        note(&helping, &frames[at]);
+    return first;
+}
+
+/* With which of the frames any other label begins. The compiler gives a store of what an inlined function returns the line of that
+ * return: it is the caller's. */
+static Int first_storing(const Frame *frames) {
+    Int at = 0;
+    while (frames[at].is_inlined && is_return(frames[at].source))
+        at++;
+    return at;
 }
 
 /* A frame and its callers. */
-static const HChar *spell(const Addr *addresses, UInt count, Act act) {
+static void spell(Label *label, Act act) {
     static Frame frames[MOST_SHOWN];
     HChar text[LABEL_BYTES] = "";
-    Int length = 0, found = frames_of(addresses, count, frames, act), first, at;
+    Int length = 0, found = frames_of(label->addresses, label->count, frames, act), first, at;
     if (found == 0)
-        found = symbols_of(addresses, count, frames);
-    if (act == STORING)
-        note_storing(&frames[0]);
-    first = act == SAVING ? first_storing(frames, found) : 0;
+        found = symbols_of(label->addresses, label->count, frames);
+    first = act == SAVING ? first_saving(frames, found) : first_storing(frames);
+    for (at = first; act == STORING && at < found; at++)
+        note(&storing, &frames[at]);
     for (at = first; at < found && at - first <= options.callers; at++)
         append_frame(text, &length, &frames[at], at == first);
-    return VG_(strdup)("labels.text", text);
+    label->may_change = act == SAVING && !has(&storing, &frames[0]);
+    label->storing = storing.count;
+    if (label->text == NULL || VG_(strcmp)(label->text, text) != 0)
+        label->text = VG_(strdup)("labels.text", text);
 }
 
 static void learn_epoch(void) {
@@ -155,8 +186,10 @@ static const HChar *label_of_addresses(const Addr *addresses, UInt count, Act ac
         (*place)->hash = hash;
         (*place)->count = count;
         VG_(memcpy)((*place)->addresses, addresses, count * sizeof *addresses);
-        (*place)->text = spell(addresses, count, act);
+        spell(*place, act);
         label_count++;
+    } else if ((*place)->may_change && (*place)->storing != storing.count) {
+        spell(*place, act);
     }
     return (*place)->text;
 }

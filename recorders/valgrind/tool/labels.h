@@ -4,8 +4,9 @@
 
 #include "core.h"
 
-/* What an event does. The label of one that saves, a flush or fence, begins with the innermost function that has stored by then, if there
- * is one: functions that flush and fence for others are left out. */
+/* What an event does. The label of one that saves, a flush or fence, begins with the innermost function that has stored by then, itself or
+ * by one that it called, if there is one: functions that flush and fence for others are left out. So is an inlined
+ * one where the value that it returns is stored. */
 typedef enum { STORING, SAVING, CLAIMING } Act;
 
 /* The label of an event by this thread's instruction, as `list.c:20 link < insert list.c:57`: the place comes first, then its function,

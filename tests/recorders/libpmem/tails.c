@@ -1,9 +1,13 @@
-/* tails POOL: a function that ends by a call of the library. */
+/* tails POOL: a function that ends by a call of the library, and is inlined where APART is nothing. */
 #include <libpmem.h>
 
 #include <stddef.h>
 
-__attribute__((noinline)) static void save(char *place) {
+#ifndef APART
+#define APART __attribute__((noinline))
+#endif
+
+APART static void save(char *place) {
     *place = 1;
     pmem_persist(place, 1); /* here it is called */
 }
