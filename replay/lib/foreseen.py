@@ -96,13 +96,13 @@ class Memory:
         """What the lines that are not safe hold after a crash at this place: their addresses and bytes."""
         return [(self.lines[number].address, self.lines[number].content(stores)) for number, stores in crash.persisted(self.open).items()]
 
-    def divided_stores(self, crash):
-        """The numbers of the stores that a crash at this place can lose: those that this one loses, and those that it keeps, rising. Each
-        open line's stores are those of the trace, in their order."""
+    def stores_back(self, crash):
+        """The numbers of the stores before this place, from the last one back to the first one that a crash can lose, or back to one that this
+        crash keeps: those that it keeps, and those that it loses. Each open line's stores are those of the trace, in their order."""
         persisted = crash.persisted(self.open)
         ranks = {number: count for number, (_, count) in self.open.items()}
-        lost, kept, number = [], [], self.place
-        while ranks:
+        kept, lost, number = [], [], self.place
+        while number > 0 and (ranks or not kept):
             store = self.trace.store(number)
             line = store[0] // self.trace.line_size if store else None
             if line in ranks:
@@ -110,18 +110,7 @@ class Memory:
                 ranks[line] -= 1
                 if ranks[line] == self.open[line][0]:
                     del ranks[line]
+            elif store:
+                kept.append(number)
             number -= 1
-        return lost[::-1], kept[::-1]
-
-    def last_kept(self, crash):
-        """The number of the last store before this place that a crash keeps; None where it keeps none."""
-        persisted = crash.persisted(self.open)
-        ranks = {number: count for number, (_, count) in self.open.items()}
-        for number in range(self.place, 0, -1):
-            store = self.trace.store(number)
-            line = store[0] // self.trace.line_size if store else None
-            if store and (line not in ranks or ranks[line] <= persisted[line]):
-                return number
-            if store:
-                ranks[line] -= 1
-        return None
+        return kept, lost

@@ -21,7 +21,7 @@ from programs import find_pmtrim
 from progress import Progress
 from results import KeptResults, Results, identity_of, remove_tree
 from screen import shown
-from telling import MOST_STORES, Texts, next_words, summary, table
+from telling import Texts, summary, table, told_of
 from trace import Trace
 from words import HELP, part_asked, take_words
 
@@ -134,44 +134,37 @@ class Replay:
 
     def take(self, workers, room, name, crash, memory):
         """Hands an image to a worker, unless its result is known."""
-        result = {"number": self.counts.images, "place": crash.place}
         if name in self.results.known:
             with self.lock:
                 self.counts.known += 1
                 self.note(name, self.results.known[name])
             return
-        contents, (all_lost, kept) = memory.open_contents(crash), memory.divided_stores(crash)
-        lost = [number for number in all_lost if not self.trace.is_ignored(number)]
-        result.update(lost=lost[:MOST_STORES], losses=len(lost), ignored=len(all_lost) - len(lost))
-        result.update(last_kept=memory.last_kept(crash), made_by=self.made_by(crash))
-        if len(kept) < len(lost):
-            result.update(kept=kept[:MOST_STORES], keeps=len(kept))
+        contents, stores = memory.open_contents(crash), memory.stores_back(crash)
         while not room.acquire(timeout=0.5):
             self.go_on()
         self.go_on()
-        workers.submit(self.check, room, name, crash, contents, result)
+        workers.submit(self.check, room, name, crash, contents, stores, self.counts.images)
 
     def made_by(self, crash):
-        """The words by which the image is made again, for a person."""
-        names = [f"crash{number or ''}.pool" for number in [0, *range(2, len(self.pools) + 1)]]
-        if len(self.pools) > 1:
-            return []
-        return [shlex.join(["pmtrim", *self.maker.words(crash, number, name)]) for number, name in enumerate(names)]
+        """The command by which a person makes the image again and runs the checker on it; none of several pools."""
+        name = "crash.pool"
+        words = ["pmtrim", *self.maker.words(crash, 0, name)], self.checker.words_for([name])
+        return " && ".join(map(shlex.join, words)) if len(self.pools) == 1 else ""
 
-    def check(self, room, name, crash, contents, result):
+    def check(self, room, name, crash, contents, stores, number):
         """Makes an image, runs the checker on it, and notes how that went. What goes wrong is kept for the one who waits."""
-        folder = self.folder / str(result["number"])
+        folder = self.folder / str(number)
         try:
             outcome = self.check_in(folder, crash, contents)
-            result.update(failed=outcome.failed, status=outcome.status, tail=outcome.tail)
-            if not outcome.failed:
-                result = {"failed": False, "number": result["number"], "place": crash.place, "tail": outcome.tail}
+            result = {"number": number, "place": crash.place, "failed": outcome.failed, "tail": outcome.tail}
+            if outcome.failed:
+                result.update(status=outcome.status, made_by=self.made_by(crash), **told_of(self.trace, *stores))
             with self.lock:
                 self.counts.run += 1
                 self.results.add(name, result)
                 self.note(name, result)
-            if outcome.failed and self.kept and result["number"] <= self.last_kept():
-                self.keep_image(crash, folder, result["number"])
+            if outcome.failed and self.kept and number <= self.last_kept():
+                self.keep_image(crash, folder, number)
         except Stopped:
             pass
         except Exception as error:
@@ -222,7 +215,7 @@ class Replay:
         lines += self.texts.rows()
         failures = [self.failures[number] for number in sorted(self.failures)]
         if failures:
-            lines += ["", *table(self.trace, failures), "", *next_words(self.trace, failures[0])]
+            lines += ["", *table(self.trace, failures)]
         print(shown(lines, sys.stdout), flush=True)
 
     def clean_up(self):

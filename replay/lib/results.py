@@ -26,6 +26,7 @@ def digest_of(path):
 def identity_of(options, pools):
     """What results depend on, by the name that is told where it differs."""
     return {
+        "version": 2,  # of what stands in the file
         "trace": digest_of(options.trace),
         "base": [[digest_of(pool.base), pool.origin] for pool in pools],
         "checker": [digest_of(shutil.which(options.checker[0])), *options.checker],

@@ -6,7 +6,7 @@ import textwrap
 COLUMNS = 100
 TEXT = re.compile(r" *(?:\S.{0,11}?\s{2,})?(?=\S)")  # what stands before a row's text
 COMMAND = re.compile(r"\bpmtrim(?:-suite)? [a-z]+ ")  # is copied whole
-COLORS = {"new:": 31, "failed": 31, "checker:": 31, "not judged, or not wholly:": 33, "note:": 36, "fix": 32, "next": 0, "known, by": 0, "new too:": 31}
+COLORS = {"new:": 31, "failed": 31, "checker:": 31, "not judged, or not wholly:": 33, "note:": 36, "fix": 32, "next:": 0, "known, by": 0, "new too:": 31}
 HEAD = re.compile(rf"( *)({'|'.join(map(re.escape, COLORS))})(?=\s|,|$)")
 
 

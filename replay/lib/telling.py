@@ -1,49 +1,75 @@
-"""What is told at the end: counts, and the table of images that failed."""
+"""What is told at the end: counts, and the images that failed, in groups."""
+import math
+import re
 import shlex
 
-MOST_FAILURES, MOST_STORES, MOST_LINES, MOST_TEXTS = 20, 6, 8, 4
+MOST_GROUPS, MOST_TEXTS = 8, 4
+NUMBER = re.compile(r"0x[0-9a-fA-F]+|\d+")
 
 
 def counted(number, thing):
     return f"{number} {thing}" if number == 1 else f"{number} {thing}s"
 
 
-def shorten(things, most, thing):
-    """The first of many, and how many more there are."""
-    return things[:most] + [f"and {counted(len(things) - most, f'more {thing}')}"] * (len(things) > most)
+def told_of(trace, kept, lost):
+    """What is told of a crash by the stores that it keeps and loses, from the last one back: the last one that it keeps, the last one before
+    it that it loses, how many it loses, and of each site the last one that it keeps and the first one that it loses."""
+    own = [number for number in lost if not trace.is_ignored(number)]
+    before = [number for number in own if kept and number < kept[0]]
+    return {
+        "kept": kept[0] if kept else None,
+        "lost": before[0] if before else None,
+        "losses": len(own),
+        "ignored": len(lost) - len(own),
+        "kept_by_site": {trace.site(number): number for number in reversed(kept)},
+        "lost_by_site": {trace.site(number): number for number in own},
+    }
 
 
-def stores_of(trace, verb, numbers, count):
-    """What a crash does to so many stores, of which these are the first."""
-    more = count - len(numbers)
-    return [f"{verb} {trace.describe(number)}" for number in numbers] + [f"{verb} {more} more"] * (more > 0)
+def groups_of(trace, failures):
+    """The failed images in groups. Two sites make one: of the last store that its first crash keeps, which at an early place is the one that the
+    checker fails for, and of the last one before it that it loses. All crashes are of it that keep a store of the one site and lose one of
+    the other before it. Crashes that lose none before the last one that they keep are of one group where the checker said the same."""
+    pairs, killed = {}, {}
+    for result in failures:
+        kept, lost = result["kept_by_site"], result["lost_by_site"]
+        if result["lost"]:
+            own = trace.site(result["kept"]), trace.site(result["lost"])
+            pair = next((pair for pair in pairs if kept.get(pair[0], 0) > lost.get(pair[1], math.inf)), own)
+            pairs.setdefault(pair, []).append(result)
+        else:
+            killed.setdefault(tuple(said_by(result)), []).append(result)
+    return sorted([*pairs.values(), *killed.values()], key=lambda results: results[0]["number"])
 
 
-def last_kept(trace, result):
-    """The last store that the crash keeps, where it is not among those that are told."""
-    number = result.get("last_kept")
-    if number in result.get("kept", []):
-        return []
-    return [f"keeps, as the last store, {trace.describe(number)}" if number else "keeps no store"]
+def stores_of(trace, result):
+    """The two stores that a crash is told by, in the order of the run, and how many others it loses."""
+    kept, lost, count, ignored = (result[name] for name in ("kept", "lost", "losses", "ignored"))
+    rows = [f"loses {trace.describe(lost)}{f', and {count - 1} more' if count > 1 else ''}"] if lost else []
+    rows += [f"keeps {trace.describe(kept)}"] if kept else []
+    rows += [f"loses {counted(count, 'store')}{' after it' if kept else ''}"] if count and not lost else []
+    return rows + [f"loses {counted(ignored, 'store')} that {trace.path}.ignore leaves out"] * (ignored > 0)
 
 
-def losses(trace, result):
-    """The stores that the crash loses, but those that need no saving."""
-    ignored = result.get("ignored", 0)
-    told = stores_of(trace, "loses", result["lost"], result["losses"])
-    if ignored:
-        told.append(f"loses {counted(ignored, 'store')} that {trace.path}.ignore leaves out")
-    return told or ["loses nothing"]
+def said_by(result):
+    """How the checker ended, and what it wrote last but for numbers, in which one bug differs from crash to crash."""
+    return [result["status"], *(NUMBER.sub("N", line) for line in result["tail"])]
 
 
-def row_of(trace, result):
-    """A failed image: its number, its place, the event there, the checker's status; of the stores that a crash there can lose those that
-    this one keeps, if they are the fewer, the last one that it keeps, and those that it loses; and what the checker wrote last."""
-    rows = [f"{result['number']:>6} {result['place']:>6}  {trace.describe(result['place'])}"]
-    told = [f"checker: {result['status']}"]
-    told += stores_of(trace, "keeps", result.get("kept", []), result.get("keeps", 0))
-    told += [*last_kept(trace, result), *losses(trace, result)]
-    return rows + [f"{'':15}{words}" for words in [*told, *(f"| {line}" for line in result["tail"])]]
+def rows_of(trace, number, results):
+    """A group: what its crashes have in common, and the first one, with what the checker said and the command that shows it."""
+    first = results[0]
+    kept, lost = trace.site(first["kept"]), trace.site(first["lost"])
+    head = f"kept {kept}, lost {lost}" if lost else f"as if the program was killed, first at {kept or 'the beginning'}"
+    others = sum(said_by(result) != said_by(first) for result in results)
+    rows = [
+        *stores_of(trace, first),
+        f"checker: {first['status']}, on image {first['number']} of place {first['place']}",
+        *(f"| {line}" for line in first["tail"]),
+        *[f"it ended or wrote otherwise on {counted(others, 'image')}"] * (others > 0),
+        first["made_by"] or drawn(trace, first),
+    ]
+    return [f"{number}. {counted(len(results), 'image')}: {head}", *(f"    {row}" for row in rows)]
 
 
 class Texts:
@@ -71,28 +97,21 @@ class Texts:
 
 
 def table(trace, failures):
-    """The failed images, by number."""
-    rows = [" image  place  event, and what the crash keeps and loses"]
-    for result in failures[:MOST_FAILURES]:
-        rows += row_of(trace, result)
-    if len(failures) > MOST_FAILURES:
-        rows.append(f"       and {counted(len(failures) - MOST_FAILURES, 'more image')}")
-    return rows
+    """The groups of images that failed."""
+    groups, rows = groups_of(trace, failures), []
+    for number, results in enumerate(groups[:MOST_GROUPS], 1):
+        rows += [*rows_of(trace, number, results), ""]
+    if len(groups) > MOST_GROUPS:
+        more = sum(map(len, groups[MOST_GROUPS:]))
+        rows += [f"and {counted(len(groups) - MOST_GROUPS, 'more group')}, of {counted(more, 'image')}", ""]
+    return [*rows, "next: a picture of the first one:", f"  {drawn(trace, failures[0])}"]
 
 
-def next_words(trace, result):
-    """How to look at the first failure."""
+def drawn(trace, result):
+    """The command that draws what stands round the crash."""
     path = shlex.quote(trace.path)
     labels = f"--labels {shlex.quote(trace.path + '.labels')} " if trace.labels else ""
-    told = [*result.get("kept", []), *result["lost"]]
-    lines = dict.fromkeys(trace.store(number)[0] // trace.line_size * trace.line_size for number in told)
-    shown = "".join(f"--line {line:#x} " for line in sorted(list(lines)[:MOST_LINES]))
-    return [
-        "next, of the first one:",
-        *(f"  {words}" for words in result["made_by"]),
-        f"  pmtrim draw --around {max(result['place'], 1)} {shown}{labels}{path} > crash.svg",
-        f"  pmtrim explain {labels}{path}",
-    ]
+    return f"pmtrim draw --around {max(result['place'], 1)} {labels}{path} > crash.svg"
 
 
 def summary(trace, places, options, counts, seconds):

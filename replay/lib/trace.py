@@ -42,10 +42,16 @@ class Trace:
         at = bisect.bisect_right(self.ignored, (address, float("inf"))) - 1
         return at >= 0 and address + len(written) <= self.ignored[at][1] or self.is_at_place(number)
 
+    def site(self, number):
+        """The innermost frame of the event's label, or without one its thread; None of no event."""
+        if number in self.labels:
+            return self.labels[number].partition(" < ")[0]
+        return f"thread {self.lines[number - 1].split(' ')[1]}" if number else None
+
     def is_at_place(self, number, places=None):
-        """Whether the innermost frame of the event's label is one of these places, or of those that need no saving, or begins so."""
-        frame = self.labels[number].partition(" < ")[0] if number in self.labels else None
-        return frame is not None and any(frame.startswith(place[:-1]) if place.endswith("*") else frame == place for place in places or self.places)
+        """Whether the site of a labelled event is one of these places, or of those that need no saving, or begins so."""
+        frame = self.site(number)
+        return number in self.labels and any(frame.startswith(place[:-1]) if place.endswith("*") else frame == place for place in places or self.places)
 
     def lines_held(self, wanted):
         """The cache lines of these addresses, and those that stores of these places write. Fault: there is none."""

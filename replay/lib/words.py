@@ -13,7 +13,7 @@ Usage: pmtrim-replay [--at PLACES] [--off K] [--hold WHAT].. [--jobs N] [--keep 
        pmtrim-replay --base PART
 
 Arguments:
-  TRACE       the trace; beside it the pool's bytes from before
+  TRACE       the trace; beside it the pool's bytes from before. Behind -- too if it begins with -
   CHECKER     the program that runs on each image
   ARGUMENT..  its words, one of which has {}
 
@@ -53,6 +53,9 @@ such a place. With a K as large as the number of cache lines these are all crash
 
 A run that is stopped says so in the first line of its answer, which is of the images until then,
 and ends by the signal. PMTRIM in the environment names the program pmtrim.
+
+Failures are told in groups, by the sites of a store that is kept and an earlier one that is lost:
+lines of source by TRACE.labels, or else threads; with the command that shows the first of a group.
 
 Statuses: 0 no checker failed; 1 one did; 2 wrong words, or DIR has the results of another run;
 3 the trace or its base is refused; 4 a file can't be read or written; 5 out of memory; 6 an image
@@ -112,12 +115,16 @@ def take_words(words):
     parser.add_argument("-j", "--jobs", type=number_between(1, MOST_JOBS), default=len(os.sched_getaffinity(0)))
     parser.add_argument("--seconds", type=number_between(1, MOST_SECONDS), default=60)
     parser.add_argument("--keep")
-    parser.add_argument("trace", metavar="TRACE")
+    parser.add_argument("trace", metavar="TRACE", nargs="?")
     if "--" not in words:
         raise Fault(WRONG_WORDS, "no checker is given: it stands behind --; pmtrim-replay --help says more")
     at = words.index("--")
     options = parser.parse_args(words[:at])
     options.checker = words[at + 1 :]
+    if options.trace is None and options.checker[1:2] == ["--"]:  # its name begins with -
+        options.trace, options.checker = f"./{options.checker[0]}", options.checker[2:]
+    if options.trace is None:
+        raise Fault(WRONG_WORDS, "no trace is given; pmtrim-replay --help says more")
     if not options.checker:
         raise Fault(WRONG_WORDS, "no checker is given behind --; pmtrim-replay --help says more")
     if not any("{}" in word for word in options.checker[1:]):

@@ -6,7 +6,7 @@ import signal
 import subprocess
 import time
 
-from replay_runs import REPLAY, Replayed, counts_of, write_trace
+from replay_runs import REPLAY, Replayed, counts_of, groups_of, write_trace
 from running import unignore, wait_until
 
 TWO_LINES = ["store 0 0x0 01", "store 0 0x40 02", "clwb 0 0x0", "sfence 0"]
@@ -68,7 +68,9 @@ class Faults(Replayed):
             begun = time.monotonic()
             status, told, faults = self.replay([*words, trace, *of_shell(script)])
             self.expect(f"{script}: status", (status, faults, counts_of(told)) == (1, "", (6, 4, 4, 0)), told + faults)
-            self.expect(f"{script}: told", told.count(said) == 4 and len(told) < 6000, told[:3000])
+            groups = groups_of(told)
+            right = sum(count for count, *_ in groups) == 4 and all(said in rows for *_, rows in groups)
+            self.expect(f"{script}: told", right and len(told) < 6000, told[:3000])
             self.expect(f"{script}: time", time.monotonic() - begun < 300, time.monotonic() - begun)
             self.expect(f"{script}: nothing runs on", nobody_is_asleep(), "a child of the checker")
 
@@ -92,19 +94,34 @@ class Faults(Replayed):
             one_each = told.count("1 image, the first is image ") == 2
             self.expect(f"texts that are kept, run {number}", status == 1 and differs in told and one_each, told)
 
-    def test_last_kept_store_is_told(self):
-        """The last store that a crash keeps is told, be it safe or not, unless it is listed."""
+    def test_groups(self):
+        """Crashes that keep a store of one site and lose one of another before it are one group; those that keep all up to their last one are by
+        what the checker said. Eight groups are told."""
         lines = ["store 0 0x0 01", "clwb 0 0x0", "sfence 0", "store 0 0x8 02", *(f"store 0 0x40 {number:02x}" for number in range(1, 9))]
-        trace = self.small("late.trace", lines)
-        status, told, _ = self.replay(["--off", "2", "--at", "12", trace, *of_shell("false")])
-        rows = told.split("checker: status 1\n")[1:]
-        # the first line keeps one store or two, the other from none to eight
-        self.expect("the last store that is kept: images", status == 1 and len(rows) == 18, told)
-        wanted = {4 + count for count in range(1, 9)} | {1, 4}
-        shown = [max(int(number) for number in re.findall(r"keeps(?:, as the last store,)? event (\d+): store", row)) for row in rows]
-        self.expect("the last store that is kept", set(shown) == wanted and shown.count(1) == 1 and shown.count(4) == 1, shown)
-        status, told, _ = self.replay(["--at", "1", self.small(), *of_shell("false")])
-        self.expect("no store is kept", status == 1 and told.count("keeps no store\n") == 1, told)
+        sites = ["1 log.c:1 put", "4 log.c:2 put", *(f"{number} log.c:3 mark < put log.c:9" for number in range(5, 13))]
+        trace, killed = self.small("late.trace", lines), "as if the program was killed, first at"
+        words = ["-j", "1", "--off", "2", "--at", "12", trace, *of_shell("echo of $$; [ $(od -An -tu1 -j64 -N1 $1) -lt 8 ] || exit 3; false")]
+        # the first line keeps one store or two, the other from none to eight: with eight the status is another one
+        for labels, pair, first, last in ((sites, "kept log.c:3 mark, lost log.c:2 put", "log.c:1 put", "log.c:3 mark"), ([], "kept thread 0, lost thread 0", "thread 0", "thread 0")):
+            (self.folder / "late.trace.labels").write_text("".join(f"{label}\n" for label in labels))
+            status, told, _ = self.replay(words)
+            came = [(count, head, re.findall(r"it ended or wrote otherwise on (\d+) image", rows)) for count, head, rows in groups_of(told)]
+            self.expect("groups", status == 1 and sorted(came) == [(1, f"{killed} {last}", []), (8, pair, ["1"]), (9, f"{killed} {first}", [])], told)
+        told = self.replay(["--at", "1", self.small(), *of_shell("false")])[1]
+        self.expect("no store is kept", [(count, head) for count, head, _ in groups_of(told)] == [(2, f"{killed} the beginning")], told)
+        trace = self.small("many.trace", [f"store 0 {4 * number:#x} 01" for number in range(12)])
+        told = self.replay(["--at", "12", trace, *of_shell("exit $(od -An -tu1 -v $1 | tr -dc 1 | wc -c | sed s/^0/13/)")])[1]
+        self.expect("many groups", len(groups_of(told)) == 8 and "\nand 5 more groups, of 5 images\n" in told, told)
+
+    def test_later_crashes(self):
+        """A store that is never flushed is lost by all later crashes: they are one group with the first, whatever they keep last."""
+        rounds = [words for at in range(1, 5) for words in (f"store 0 {64 * at:#x} 01", f"clwb 0 {64 * at:#x}", "sfence 0")]
+        trace = self.small("later.trace", ["store 0 0x0 01", *rounds], 512)
+        (self.folder / "later.trace.labels").write_text("1 list.c:1 fill\n2 list.c:2 push\n5 list.c:3 push\n8 list.c:4 push\n11 list.c:5 push\n")
+        # it fails if the first byte is lost and that of the first round is there
+        told = self.replay([trace, *of_shell('[ "$(od -An -tu1 -N1 "$1")" -ge "$(od -An -tu1 -j64 -N1 "$1")" ]')])[1]
+        groups = [(count, head) for count, head, _ in groups_of(told)]
+        self.expect("later crashes", groups == [(counts_of(told)[2], "kept list.c:2 push, lost list.c:1 fill")] and groups[0][0] > 3, told)
 
     def test_ignored_stores_are_not_lost(self):
         """Stores that need no saving are not among those that a crash loses."""
@@ -115,13 +132,12 @@ class Faults(Replayed):
         told = self.replay(words)[1]
         lost = re.findall(r"loses (.*)", told)
         self.expect("ranges that are ignored", "loses event 2: " not in told and "loses event 1: store 0 0x0 01" in told, told)
-        self.expect("ranges that are ignored: counted", lost.count("1 store that locks.trace.ignore leaves out") == 2, lost)
+        self.expect("ranges that are ignored: counted", lost[:2] == ["2 stores", "1 store that locks.trace.ignore leaves out"], lost)
         ranges.write_text("label locks.c:3 *\nlabel locks.c:7 take\n0x44:4\n")
         labels = self.folder / "locks.trace.labels"
         labels.write_text("1 locks.c:7 take < main.c:2\n2 locks.c:3 hold\n3 locks.c:33 hold\n")
         lost = re.findall(r"loses (.*)", self.replay(words)[1])
-        wanted = {"event 3 at locks.c:33 hold: store 0 0x50 01", "nothing", *(f"{count} that locks.trace.ignore leaves out" for count in ("1 store", "2 stores"))}
-        self.expect("places that are ignored", {*lost} == wanted, lost)
+        self.expect("places that are ignored", lost == ["1 store", "2 stores that locks.trace.ignore leaves out"], lost)
         labels.unlink()
         ranges.write_text("0x44:4\n64 to 68\n")
         status, told, faults = self.replay(words)
@@ -169,6 +185,13 @@ class Faults(Replayed):
         self.expect("images are kept", len(found) == 4 and set(found) == IMAGES, found)
         self.expect("nothing else is kept", {path.name for path in kept.iterdir()} == {"state.jsonl", *(f"image{n}" for n in range(1, 5))}, told)
 
+    def test_name_like_an_option(self):
+        """A trace whose name begins with - stands behind --, as explain tells it."""
+        name = self.small("-x.trace")
+        for words in ([], ["--at", "1-2"]):
+            status, told, faults = self.replay([*words, "--", name, *of_shell("false")])
+            self.expect(f"{words}", (status, faults) == (1, "") and "--out crash.pool ./-x.trace && sh" in told and "./-x.trace > crash.svg" in told, told + faults)
+
     def test_refusals(self):
         trace, always = self.small(), of_shell("true")
         short = self.small("short.trace", size=64)
@@ -188,6 +211,7 @@ class Faults(Replayed):
             ([trace, "--", "sh", "-c", "true"], 2, "has {}"),
             ([trace, "--", "no-such-checker", "{}"], 2, "no-such-checker: there is no such program"),
             ([trace], 2, "no checker is given"),
+            (always, 2, "no trace is given"),
             (["--at", "3-5", trace, *always], 2, "pmtrim image: place past end 4"),
             (["--at", "5-3", trace, *always], 2, "is no place"),
             (["--off", "65", trace, *always], 2, "65 is no number from 0 to 64"),
@@ -274,7 +298,6 @@ class Faults(Replayed):
         trace = self.small("large.trace", [f"store 0 {LARGE - 1:#x} 07", f"clwb 0 {LARGE - 64:#x}", "sfence 0"], 0)
         with open(self.folder / "large.trace.base", "wb") as file:
             file.truncate(LARGE)
-        script = '[ "$(stat -c %s "$1")" -eq 1073741824 ] && tail -c 1 "$1" | od -An -tu1; false'
+        script = '[ "$(stat -c %s "$1")" -eq 1073741824 ] && tail -c 1 "$1" | od -An -tu1 | tr 07 az; false'
         status, told, faults = self.replay(["--jobs", "1", trace, *of_shell(script)])
-        seen = sorted(line.strip() for line in re.findall(r"\| +(\d)$", told, re.M))
-        self.expect("a pool of 1 GiB", (status, seen) == (1, ["0", "7"]), told + faults)
+        self.expect("a pool of 1 GiB", (status, sorted(re.findall(r"\| +(\w)$", told, re.M))) == (1, ["a", "z"]), told + faults)

@@ -1,16 +1,18 @@
 """Programs that are recorded with the pool's first bytes, and whose own recovery is the checker."""
+import os
 import re
 
 from needs import need_recorder
 from program import TOP
-from replay_runs import HERE, Replayed, counts_of, write_trace
+from replay_runs import HERE, Replayed, counts_of, groups_of, write_trace
 
 RECORD = TOP / "recorders/valgrind/pmtrim-record"
 LIBPMEM = TOP / "recorders/libpmem/out"
 BY_HEADER = ["gcc", "-Wall", "-Wextra", "-Werror", "-pthread", "-I", TOP / "recorders/c"]
 BY_LIBPMEM = ["gcc", "-g", "-Wall", "-Wextra", "-Werror", "-I", LIBPMEM / "include"]
 PLAIN = ["gcc", "-O1", "-g", "-mclwb", "-Wall", "-Wextra", "-Werror"]
-FIRST_FAILURE = ["keeps event 25", "loses event 9", "loses event 19"]
+# What the groups of the example have kept and lost: its balances are stored in line 49, its log's entries in line 40 and its length in line 42.
+UNDO_LOG = [(40, 49), (42,), (42, 49)]
 
 
 class Programs(Replayed):
@@ -27,21 +29,26 @@ class Programs(Replayed):
         return self.expect_built(made, [*compiler, *words, HERE / f"{name}.c", "-o", made, *behind])
 
     def test_recovery_of_a_list(self):
-        self.structure("list", "list.trace", "no node", BY_HEADER)
+        self.structure("list", "list.trace", "no node", "list->head, number", "*node, filled", BY_HEADER)
 
     def test_recovery_of_a_log(self):
-        self.structure("log", "log.pool.trace", "is torn", BY_LIBPMEM, ["-L", LIBPMEM / "lib", "-lpmem", "-pthread"])
+        self.structure("log", "log.pool.trace", "is torn", "&log->end", "pmem_", BY_LIBPMEM, ["-L", LIBPMEM / "lib", "-lpmem", "-pthread"])
 
     def test_recovery_of_a_table(self):
-        self.structure("table", "table.trace", "another's value", PLAIN, recorder=[RECORD, "--base", "--trace", "table.trace"])
+        self.structure("table", "table.trace", "another's value", "].", None, PLAIN, recorder=[RECORD, "--base", "--trace", "table.trace"])
 
-    def structure(self, name, trace, said, compiler, behind=(), recorder=()):
+    def structure(self, name, trace, said, kept, lost, compiler, behind=(), recorder=()):
         for words, wrong in (((), False), (("-DWRONG",), True)):
             program, pool = self.build(name, compiler, words, behind), self.folder / f"{name}.pool"
             pool.unlink(missing_ok=True)
             done = self.call([*recorder, program, pool.name], {} if recorder else {"PMTRACE_BASE": "1"})
             self.expect(f"{program.name} is recorded", done[0] == 0, done)
-            self.checked(trace, program, wrong, said)
+            self.call([TOP / "recorders/libpmem/pmtrim-lines", f"{trace}.labels"])
+            told = self.checked(trace, program, wrong, said)
+            lines = (HERE / f"{name}.c").read_text().splitlines()
+            for _, head, _ in groups_of(told):
+                sites = [lines[int(number) - 1] for number in re.findall(r":(\d+)", head)]
+                self.expect(f"{program.name}: {head}", kept in sites[0] and (lost in sites[1] if lost else len(sites) == 1), sites)
 
     def checked(self, trace, program, wrong, said):
         """The wrong one is refused by its own check of some image, the right one by none."""
@@ -51,7 +58,7 @@ class Programs(Replayed):
         crashes, images, failed, _ = counts_of(told)
         self.expect(f"{name}: counts", crashes >= images > 10 and (failed > 0) == wrong, told)
         self.expect(f"{name}: what the checker said", (said in told) == wrong, told)
-        self.expect(f"{name}: what is lost", (re.search(r"loses event \d+ at .*: store 0 0x", told) is not None) == wrong, told)
+        return told
 
     def test_bases_by_header(self):
         program = self.build("bases", BY_HEADER)
@@ -124,6 +131,15 @@ class Programs(Replayed):
                 self.expect_file(f"examples/undo_log.{ending}", f"undo_log.{ending}", (TOP / f"examples/undo_log.{ending}").read_bytes())
             done = self.replay(["undo_log.trace", "--", program, "recover", "{}"])
             self.expect(f"undo_log {words}", done[0] == status and ("add up to" in done[1]) == bool(status), done)
-        told = [" ".join(row.split()[:3]) for row in done[1].split("\n")]
-        self.expect("what a crash keeps, where that is less, and what it loses", told[6:9] == FIRST_FAILURE, told)
-        self.expect("a crash that loses nothing", told[11:15] == ["checker: status 1", "keeps, as the", "0300000000000000", "loses nothing"], told)
+        groups = groups_of(done[1])
+        sites = [tuple(int(number) for number in re.findall(r":(\d+)", head)) for _, head, _ in groups]
+        self.expect("the groups", sorted(sites) == UNDO_LOG and sum(count for count, *_ in groups) == counts_of(done[1])[2], done[1])
+        self.commands_run(re.findall(r"^ +(pmtrim .*)$", done[1], re.M))
+
+    def commands_run(self, commands):
+        """Each command that is told runs as it stands: the checker fails on the image that it makes, and at last the picture is drawn."""
+        (self.folder / "pmtrim").symlink_to(self.program)
+        for command in commands:
+            done = self.call(["sh", "-c", command], {"PATH": f"{self.folder}:{os.environ['PATH']}"})
+            self.expect(command, done[0] == int(command != commands[-1]) and ("add up to" in done[1]) == bool(done[0]), done)
+        self.expect("commands", len(commands) == len(UNDO_LOG) + 1 and (self.folder / "crash.svg").exists(), commands)

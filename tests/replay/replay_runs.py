@@ -9,6 +9,7 @@ from running import run
 
 HERE = TOP / "tests/replay"
 REPLAY = TOP / "replay/pmtrim-replay"
+GROUP = re.compile(r"^\d+\. (\d+) images?: ((?:.*\n)+?)((?:    (?:loses|keeps|checker:).*\n)(?:    .*\n)*)", re.M)
 FOUND = re.compile(r"(\d+) crash(?:es)?, (\d+) different images?: (\d+) failed(?: \((\d+) of them in an earlier run\))?")
 
 
@@ -16,6 +17,11 @@ def counts_of(told):
     """The crashes, images and failures that the answer counts, and how many were known."""
     found = FOUND.search(told)
     return tuple(int(number or 0) for number in found.groups()) if found else None
+
+
+def groups_of(told):
+    """The groups of images that failed: how many, what their crashes have in common, and what is told of the first one."""
+    return [(int(count), " ".join(head.split()), rows) for count, head, rows in GROUP.findall(told)]
 
 
 def write_trace(path, head, lines, base, origin):
