@@ -173,9 +173,8 @@ class Findings {
     this.places = tellsAll(summary.asked) ? troubled : null;
     this.summary = { ...summary, more: { ...leftOut(summary.more ?? {}, explained), ...this.leftPlaces(summary.more ?? {}, explained) } };
     this.all = listedEntries(explained, summary, this.places).map((entry, order) => this.finding(entry, order));
-    // Each cause with all its failed assertions, also those that are not on the page, and with what is counted inside.
+    // Each cause with all its failed assertions, also those that are not on the page.
     this.causes = new Map(explained.filter((entry) => entry.kind === 'cause').map((cause) => [this.causeKey(cause), cause]));
-    for (const finding of this.all) if (finding.kind === 'failure') finding.cause = this.causes.get(finding.key);
     this.filter({});
   }
 
@@ -200,8 +199,7 @@ class Findings {
     const isOfPlace = this.places !== null && (entry.kind === 'never_persisted' || entry.kind === 'late');
     const section = isOfPlace ? 'place' : entry.kind;
     const number = NAMED_BY[entry.kind](entry).event;
-    const { threads } = this.summary;
-    return { kind: entry.kind, name: nameOf(entry), section, order, entry, number, words, owner, stands, threads, key: this.key(section, common) };
+    return { kind: entry.kind, name: nameOf(entry), section, order, entry, number, words, owner, stands, key: this.key(section, common) };
   }
 
   // Keeps the findings that meet all that is asked for, and puts those of one cause or place together, in the order of explain.

@@ -28,6 +28,11 @@ const HINTS = {
     other: 'store',
     remedy: 'If that store may not be saved first, fence before it; isOrderedBefore claims the order.',
   },
+  stored_after_mark: {
+    row: 'store after the one that publishes',
+    told: ({ count: many }) => `${count(many, 'time')} a store comes after the one that publishes, by the same fence: a crash can keep that alone`,
+    remedy: 'Store what publishes last: in one cache line stores are saved in their order; else flush and fence the others before it.',
+  },
   one_fence_late: {
     row: 'store saved one fence late',
     told: ({ count: many }) => `${count(many, 'store')} ${many === 1 ? 'is' : 'are'} saved one fence late, and a crash can keep what the fence before saves`
@@ -183,7 +188,7 @@ function hintTold(trace, entry) {
   const hint = HINTS[entry.hint];
   return {
     headline: hint?.told(entry) ?? `${entry.hint}: ${count(entry.count, 'time')}`,
-    why: ['No rule forbids it, and most often it is a slip. It does not count for the status.'],
+    why: ['No rule forbids it, and most often it is a slip.'],
     items: [
       ...item(entry.path ? 'path' : 'place', ...ownerNodes(entry)),
       ...item(entry.count === 1 ? 'event' : 'first', ...eventNodes(trace, entry.first.event)),

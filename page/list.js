@@ -24,7 +24,7 @@ class List {
     if (groups.length === 0) return [];
     const told = make('span', { class: 'soft' }, this.counted(section, groups));
     const nodes = [make('h3', { class: section }, `${KIND_SIGNS[section]} ${KIND_WORDS[section]} `, told)];
-    if (section === 'hint') nodes.push(make('p', { class: 'key' }, 'No rule forbids these, but most are slips; they do not change the exit status.'));
+    if (section === 'hint') nodes.push(make('p', { class: 'key' }, 'No rule forbids these, but most are slips.'));
     nodes.push(make('ul', { class: section }, ...groups.slice(0, this.limit).map((group) => make('li', {}, this.button(group)))));
     if (groups.length > this.limit) nodes.push(this.more(groups.length - this.limit));
     return nodes;

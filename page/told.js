@@ -11,7 +11,7 @@ function findingNodes(trace, finding) {
   const { headline, why = [], items } = TOLD[finding.kind](trace, finding.entry);
   const head = [make('p', { class: `headline ${finding.kind}` }, `${KIND_SIGNS[finding.kind]} ${headline}`)];
   if (why.length > 0) head.push(make('p', {}, ...why));
-  return { head, rest: make('dl', {}, ...items, ...insideItems(finding.cause, finding.threads)) };
+  return { head, rest: make('dl', {}, ...items) };
 }
 
 // The address of the cache line of an event.

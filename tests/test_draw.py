@@ -4,16 +4,14 @@ import re
 import subprocess
 
 from checks import Checks, add_tests
-from drawn import SVG, Picture, of_class, title_of
+from drawn import Picture, of_class, title_of
 from drawn_mends import after_is_pale, is_mended, kept_is_told, mends_are_shown, told_mend
 from drawn_rules import (
-    COLUMNS,
-    CRASHES,
     TOLD,
+    around,
     bars_are_told,
-    crashes_are_apart,
+    crash_is_apart,
     crashes_are_right,
-    earlier_are_counted,
     events_are_right,
     extent,
     flushes_are_right,
@@ -29,23 +27,22 @@ from drawn_rules import (
     story_is_right,
     waits_are_apart,
 )
-from machine import FLUSHES, random_trace, spelled, text_of, verdict
+from machine import random_trace, spelled, text_of, verdict
 from page_machine import read_trace
 from program import TOP
 from slices import Plain, slice_of
 from traces import all_traces
 
 TRACES = 150
-ROWS = 30
 
 
 # Traces of which explain tells no error, and the headline of the picture of what it tells first; the answers are written by hand.
 SAVED = ["clwb 0 0x1000", "sfence 0"]
 FIRST = [
-    (["isPersist 0 0x1000 1", "store 0 0x1000 01", *SAVED, *["isPersist 1 0x1000 1"] * 2], "The assertion of event 1 speaks of bytes that no store has written"),
+    (["isPersist 0 0x1000 1", "store 0 0x1000 01", *SAVED, *["isPersist 1 0x1000 1"] * 2], "Events 1 to 6"),
     (["store 0 0x1040 01", "store 0 0x1000 01", *SAVED, "store 0 0x1000 02", *SAVED, "clwb 0 0x1040", "sfence 0"], "Store 1 is saved late"),
-    (["store 0 0x1000 01", *SAVED, "clwb 0 0x1040", "sfence 1", "sfence 1", "sfence 0"], "Event 5 has no effect"),
-    (["store 0 0x1000 01", "store 0 0x1000 01", "store 0 0x1040 01", "store 0 0x1040 02", *SAVED, "clwb 0 0x1040", "sfence 0"], "Store 3 is written over by store 4 before any flush"),
+    ([*["store 0 0x1000 01", *SAVED] * 20, "sfence 1", *["store 0 0x1000 01", *SAVED] * 20], "Events 50 to 73"),
+    (["store 0 0x1000 01", "store 0 0x1000 01", "store 0 0x1040 01", "store 0 0x1040 02", *SAVED, "clwb 0 0x1040", "sfence 0"], "Events 1 to 8"),
     (["store 0 0x1000 01", *SAVED], "Events 1 to 3"),
 ]
 
@@ -56,13 +53,10 @@ def told_words(picture):
 
 def marks_are_apart(picture):
     """The names of the flushes' threads, and the labels of the columns, do not meet."""
-    for band in picture.bands:
-        texts = [text for row in band.rows for text in of_class(row, "text", "small") if text.text.startswith("T")]
-        texts += [text for event in of_class(band.root, "g", "event") for text in of_class(event, "text", "label")]
-        places = sorted((base, left, right) for left, right, base in map(extent, texts))
-        if any(base == other and left < right + 1 for (base, _, right), (other, left, _) in zip(places, places[1:])):
-            return False
-    return True
+    texts = [text for row in picture.rows for text in of_class(row, "text", "small") if text.text.startswith("T")]
+    texts += [text for event in picture.events for text in of_class(event, "text", "label")]
+    places = sorted((base, left, right) for left, right, base in map(extent, texts))
+    return not any(base == other and left < right + 1 for (base, _, right), (other, left, _) in zip(places, places[1:]))
 
 
 class Drawing(Checks):
@@ -91,7 +85,7 @@ class Drawing(Checks):
 
     def judge_page(self, words, picture):
         """What holds of each picture's page."""
-        self.judge(f"crashes apart {words}", crashes_are_apart(picture))
+        self.judge(f"crash apart {words}", crash_is_apart(picture))
         self.judge(f"names {words}", rows_are_named(picture))
         self.judge(f"lines of flushes apart {words}", waits_are_apart(picture))
         self.judge(f"legend {words}", legend_is_right(picture))
@@ -107,7 +101,7 @@ class Drawing(Checks):
 
 
 class Random(Drawing):
-    """Small random traces, each drawn as a story, in part, and around an event."""
+    """Small random traces, each drawn as a story and around an event."""
 
     def test_random_traces(self):
         choose = random.Random(9)
@@ -119,15 +113,8 @@ class Random(Drawing):
         self.file.write_bytes(text_of([head, *map(spelled, trace.events)]))
         story = self.drawn()
         self.judge("the story", story_is_right(story, trace))
-        first = choose.choice(trace.numbers)
-        last = choose.choice(range(first, len(trace.events) + 1))
-        around = choose.choice(trace.numbers)
-        whole = list(trace.numbers)
-        for words, picture, numbers in (
-            ("the story", story, story.numbers),
-            (f"from {first} to {last}", self.drawn("--from", first, "--to", last), range(first, last + 1)),
-            (f"around {around}", self.drawn("--around", around), whole),
-        ):
+        number = choose.choice(trace.numbers)
+        for words, picture, numbers in (("the story", story, story.numbers), (f"around {number}", self.drawn("--around", number), around(trace, number))):
             self.judge(f"events {words}", events_are_right(picture, trace, numbers))
             self.judge(f"flushes {words}", flushes_are_right(picture, trace))
             self.judge(f"stores {words}", stores_are_right(picture, trace))
@@ -138,22 +125,7 @@ class Random(Drawing):
             self.judge(f"line size {words}", f"cache lines of {trace.size} bytes" in picture.words())
             self.judge_page(words, picture)
             self.judge_mend(words, picture, trace)
-            if words.startswith("from"):
-                self.judge(f"earlier stores {words}", earlier_are_counted(picture, trace, first))
-        self.judge_line(trace, choose)
         self.judge_failure(trace, choose)
-
-    def judge_line(self, trace, choose):
-        """One line: its stores and flushes, and no other's; one that no event speaks of is refused."""
-        line = choose.choice([trace.line(n) for n in trace.numbers if trace.event(n)[0] in ("store", "clflush", *FLUSHES)] or [0])
-        numbers = [n for n in trace.numbers if trace.event(n)[0] in ("store", "clflush", *FLUSHES) and trace.line(n) == line]
-        words = ["--line", f"{line * trace.size + 3:#x}", "--from", 1, "--to", len(trace.events)]
-        if not numbers:
-            self.refused("--line", *words)
-            return
-        picture = self.drawn(*words)
-        shown = [n for n in picture.numbers if trace.event(n)[0] in ("store", "clflush", *FLUSHES)]
-        self.judge(f"line {line:#x}", shown == numbers and picture.lines == [line * trace.size] and stores_are_right(picture, trace))
 
     def judge_failure(self, trace, choose):
         """An event by its number: the failure that it is, or a word that it is none."""
@@ -202,40 +174,33 @@ class Worked(Drawing):
     """Traces and words by hand."""
 
     def test_limits(self):
-        """256 threads, more lines than rows and more events than columns: the picture says what is left out."""
+        """More events than have room: those around the one that is asked for, and words for the others."""
         stores = [f"store {n} {0x1000 + 64 * n:#x} 01" for n in range(256)]
         self.file.write_bytes(text_of(["pmtrace 1", *stores, *(f"sfence {n}" for n in range(256))]))
-        picture = self.drawn("--from", 1, "--to", 9737)
-        self.judge("columns", picture.numbers == list(range(1, COLUMNS + 1)))
-        self.judge("rows", len(picture.lines) == ROWS)
-        self.judge("what is left out", "392 events" in picture.words() and f"{COLUMNS - ROWS} more lines" in picture.words())
-        self.judge("what was asked for", "Of the events 1 to 9737 that were asked for, 392 have no room." in told_words(picture))
-        self.judge("the end", "the trace ends at event 512" in told_words(picture))
-        self.judge_page("256 threads", picture)
-        picture = self.drawn("--around", 300)
-        self.judge("around the middle", len(picture.numbers) == COLUMNS and {300 - 50, 300, 300 + 50} <= set(picture.numbers))
-        self.judge("marks apart", marks_are_apart(picture))
-        picture = self.drawn("--line=0x4200", "--around", 201)
-        self.judge("one line", picture.numbers == [201, 457] and picture.lines == [0x4200])
-        lines = [f"--line={0x1000 + 64 * n:#x}" for n in (7, 200)]
-        picture = self.drawn("--from", 1, "--to", 512, *lines)
-        self.judge("no crash left out", "has no room" not in picture.words())
-        self.judge("two lines", picture.numbers == [8, 201, 264, 457] and picture.lines == [0x11c0, 0x4200])
+        for number, first in ((1, 1), (13, 2), (300, 289), (512, 489)):
+            picture = self.drawn("--around", number)
+            self.judge(f"around {number}", picture.numbers == list(range(first, first + TOLD)))
+            self.judge(f"rows around {number}", picture.lines == [0x1000 + 64 * (n - 1) for n in picture.numbers if n <= 256])
+            self.judge(f"what is left out around {number}", "Left out: 488 events, where the dots stand." in told_words(picture))
+            self.judge("marks apart", marks_are_apart(picture))
+            self.judge_page(f"around {number}", picture)
         self.refused("event 513 lies past the end", "--around", 513)
-        self.refused("event 513 lies past the end", "--from", 513, "--to", 600)
         self.refused("event 513 lies past the end", "--failure", 513)
-        self.refused("'--line 0x9000'", "--line", "0x1000", "--line", "0x9000")
 
     def test_threads(self):
-        """The thread of the failing assertion has a row of its own among many; marks of threads with three digits stand apart."""
-        stores = [f"store {n} {0x1000 + n % 4:#x} 01" for n in range(100, 140)]
-        flushes = [f"clwb {n} 0x1000" for n in range(100, 140)]
+        """Marks of threads with three digits stand apart, also where many events are left out."""
+        stores = [f"store {n} {0x1000 + n % 4:#x} 01" for n in range(100, 112)]
+        flushes = [f"clwb {n} 0x1000" for n in range(100, 112)]
         self.file.write_bytes(text_of(["pmtrace 1", *stores, *flushes, "isPersist 255 0x1000 1"]))
-        picture = self.drawn("--from", 1, "--to", 81)
-        names = {text.text for text in picture.band(81).root.iter(SVG + "text")}
-        self.judge("the assertion's thread", "thread 255" in names and "other threads" in names)
+        picture = self.drawn("--around", 25)
         self.judge("three digits", marks_are_apart(picture))
         self.judge_page("three digits", picture)
+        for thread in (0, 200):
+            events = [event for n in range(30) for event in (f"store {thread} {0x1000 + 64 * n:#x} 01", "sfence 1")]
+            self.file.write_bytes(text_of(["pmtrace 1", *events, f"isPersist {thread} 0x1000 1920"]))
+            picture = self.drawn()
+            self.judge(f"many gaps of {thread}", len(picture.of_class("g", "gap")) == TOLD - 1 and marks_are_apart(picture))
+            self.judge_page(f"many gaps of {thread}", picture)
 
     def test_range(self):
         """A range of 40 lines whose last is never flushed, as by a wrong mask: of the 161 events of its slice the lost stores, the last others
@@ -267,7 +232,7 @@ class Worked(Drawing):
         self.judge("stores without room", "Of the 40 stores that it loses, 16 are not drawn." in told_words(picture))
 
     def test_crowd(self):
-        """More bars than a row has room for: a slice has them all, and else the picture says how many there are not."""
+        """Many bars one above the other: each lost store has its own."""
         sizes = {"isPersist 0 0x1000 64": 8, "isOrderedBefore 0 0x1018 8 0x1000 8": 1}
         for claim, count in sizes.items():
             events = [event for n in range(20) for event in (f"store {n} {0x1000 + 8 * (n % 8):#x} 0102030405060708", f"clwb {n} 0x1000")]
@@ -276,11 +241,9 @@ class Worked(Drawing):
             crash, = picture.crashes
             told = marked_losses(picture)
             kept = {int(crash.get("data-kept"))} if crash.get("data-kept") else set()
-            self.judge(f"lost stores of a crowd, {claim}", len(told) == count and "Bars that have no room" not in told_words(picture))
-            self.judge(f"their bars, {claim}", all(lanes_of(picture.band(store), store, 0x1000) for store in kept.union(told)))
+            self.judge(f"lost stores of a crowd, {claim}", len(told) == count)
+            self.judge(f"their bars, {claim}", all(lanes_of(picture, store, 0x1000) for store in kept.union(told)))
             self.judge_page(f"a crowd, {claim}", picture)
-            picture = self.drawn("--from", 1, "--to", 41)
-            self.judge(f"a crowd in a stretch, {claim}", "Bars that have no room in their rows: 12." in told_words(picture))
 
     def test_waits(self):
         """Three flushes of one thread that wait: a line from each to the next, and none on another."""
@@ -288,29 +251,22 @@ class Worked(Drawing):
         flushes = [f"clwb 0 {0x1000 + 64 * n:#x}" for n in range(3)]
         for fence in ([], ["sfence 0"]):
             self.file.write_bytes(text_of(["pmtrace 1", *stores, *flushes, *fence, "isPersist 0 0x1000 192"]))
-            picture = self.drawn("--from", 1, "--to", 7)
-            kinds = [line.get("class") for band in picture.bands for line in of_class(band.root, "line", "wait")]
+            picture = self.drawn("--around", 4)
+            kinds = [line.get("class") for line in of_class(picture.drawn, "line", "wait")]
             self.judge(f"lines of flushes {fence}", kinds == ["wait" if fence else "wait never"] * 3 and waits_are_apart(picture))
 
-    def test_fold(self):
-        """Stores that share their states share a bar, with a tick for each; a long history is folded into bands, and stays small."""
-        stores = [f"store 0 {0x1000 + n % 8:#x} 01" for n in range(100)]
+    def test_shared(self):
+        """Stores that share their states share a bar, with a tick for each."""
+        stores = [f"store 0 {0x1000 + n % 8:#x} 01" for n in range(20)]
         self.file.write_bytes(text_of(["pmtrace 1", *stores, "clwb 0 0x1000", "sfence 0", "isPersist 0 0x1000 8"]))
-        picture = self.drawn("--from", 1, "--to", 103)
-        self.judge("one bar", {(bar.get("data-event"), bar.get("data-drawn")) for band in picture.bands for bar in band.bars} == {("1", "100")})
-        ticks = sorted(int(tick.get("data-store")) for band in picture.bands for tick in of_class(band.root, "path", "stored"))
-        self.judge("ticks", ticks == list(range(2, 101)))
-        self.judge("bands", len(picture.bands) > 1 and int(picture.root.get("height")) < 300 * len(picture.bands) + 200)
-        sizes = [len(band.middle) for band in picture.bands]
-        self.judge(f"bands alike: {sizes}", max(sizes) - min(sizes) < len(sizes))
+        picture = self.drawn("--around", 10)
+        self.judge("one bar", [(bar.get("data-event"), bar.get("data-drawn")) for bar in picture.bars] == [("1", "20")])
+        ticks = sorted(int(tick.get("data-store")) for tick in of_class(picture.drawn, "path", "stored"))
+        self.judge("ticks", ticks == list(range(2, 21)))
         self.judge_page("one bar", picture)
-        steps = [f"{word} {n % 3} {0x1000 + 64 * (n % 40):#x}{' 01' * (word == 'store')}" for n in range(300) for word in ("store", "clwb")]
-        self.file.write_bytes(text_of(["pmtrace 1", *steps]))
-        for words in ([], ["--around", 300], ["--line=0x1000", "--line=0x1040"]):
-            self.judge_page(f"a long history {words}", self.drawn(*words))
 
     def test_first(self):
-        """What is told first is drawn: of failed assertions the cause with most members, and where there is no error the first note."""
+        """What is told first is drawn: of failed assertions the cause with most members, and where nothing is told what has no effect."""
         for events, headline in FIRST:
             self.file.write_bytes(text_of(["pmtrace 1", *events]))
             picture = self.drawn()
@@ -322,18 +278,6 @@ class Worked(Drawing):
         labels = self.file.with_name("labels")
         labels.write_text("2 a.c:1\n5 a.c:2\n6 a.c:3\n")
         self.judge("the causes by label", title_of(self.drawn("--labels", labels).root) == "isPersist 2 fails.")
-
-    def test_crashes(self):
-        """Crashes in narrow columns, some at one place, stand apart; what has no room is told."""
-        spread = [f"store 0 {0x1000 + 64 * n:#x} 01" for n in range(30)]
-        pairs = [f"isOrderedBefore 0 {first:#x} 1 {second:#x} 1" for first in (0x1000, 0x1040) for second in (0x1080, 0x10c0)]
-        self.file.write_bytes(text_of(["pmtrace 1", *spread, *pairs, *["isPersist 0 0x1000 1"] * 12, *["clwb 1 0x1000"] * 40]))
-        for words in (["--from", 1, "--to", 60], ["--from", 20, "--to", 60], []):
-            picture = self.drawn(*words)
-            self.judge_page(f"crashes {words}", picture)
-            if words:
-                self.judge(f"crashes drawn {words}", len(picture.crashes) == CRASHES)
-                self.judge(f"crashes left out {words}", "crash has no room: 4 (12 are drawn)." in told_words(picture))
 
     def test_labels(self):
         """Labels stand at their events, spelled so that the picture stays one; those with no room end in dots."""
@@ -369,14 +313,11 @@ class Worked(Drawing):
         for status, part, words in (
             (2, b"'0'", ["--around", "0"]),
             (2, b"'x'", ["--around", "x"]),
-            (2, b"'01'", ["--from", "01", "--to", "2"]),
-            (2, b"--to", ["--from", "3", "--to", "2"]),
-            (2, b"--to", ["--from", "3"]),
-            (2, b"--around", ["--around", "3", "--from", "1", "--to", "2"]),
+            (2, b"'01'", ["--around", "01"]),
             (2, b"--failure", ["--failure", "3", "--around", "1"]),
             (2, b"'0'", ["--failure", "0"]),
-            (2, b"'1000'", ["--line", "1000"]),
-            (2, b"'0x1000000000000'", ["--line", "0x1000000000000"]),
+            (2, b"'--from'", ["--from", "1", "--to", "2"]),
+            (2, b"'--line'", ["--line", "0x1000"]),
         ):
             done = self.run_draw(*words, self.file)
             self.judge(f"{words}: {done}", done.returncode == status and part in done.stderr and not done.stdout)
@@ -387,7 +328,6 @@ class Worked(Drawing):
         done = self.run_draw("--out", self.file, self.file)
         self.judge(f"over the trace: {done}", done.returncode == 2 and self.file.read_bytes() == b"pmtrace 1\n")
         self.refused("event 7 lies past the end", "--around", 7)
-        self.refused("event 1 lies past the end", "--from", 1, "--to", 2)
         self.judge("no file", self.run_draw(self.file.with_name("none")).returncode == 4)
         self.file.write_bytes(b"pmtrace 1\nfoo\n")
         done = self.run_draw(self.file)

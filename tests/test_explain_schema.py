@@ -28,6 +28,10 @@ BOUNDS = (
     "pmtrace 2 256\nstore 0 0x0 00\nisPersist 255 0x0 4096\nisOrderedBefore 0 0x0 4096 0xfffffffff000 4096\nstore 0 0x0 00\n",
     NEVER_STORED,
     many_failures(),
+    # A counter that is stored again and again, and never flushed.
+    "pmtrace 1\n" + 2 * "store 0 0x0 00\n",
+    # A store that comes after the flush of its line, and waits for the next one.
+    "pmtrace 1\nstore 0 0x0 01\nclwb 0 0x0\nstore 0 0x8 02\n" + 2 * "sfence 0\n" + "clwb 0 0x0\nsfence 0\n",
     # The second of three lines is not flushed.
     "pmtrace 1\nstore 0 0x0 01\nstore 0 0x40 02\nstore 0 0x80 03\nclwb 0 0x0\nclwb 0 0x80\nsfence 0\n" + 2 * "isPersist 0 0x0 192\n",
 )

@@ -1,18 +1,19 @@
-"""What `explain` hints at: the JSON and the texts of small random traces against hinted.py, of records that are flushed a line short, or not, and
-of a function whose callers save what it stores in ways of their own; and hints by hand."""
+"""What `explain` hints at: the JSON of small random traces against hinted.py, of records that are flushed a line short, or not, of a function whose callers
+save what it stores in ways of their own, and of marks; and hints by hand."""
 import json
 import random
 import subprocess
 
+from acts import read_acts
 from called import WAYS, round_of, rounds
 from checks import Checks
 from explained import Explained, judged
-from explained_text import wrong_text
 from machine import Trace, spelled, text_of
 from program import find
 
 TRACES = 300
 CALLS = 150
+MARKS = 200
 HEADER = "pmtrace 2 64"
 # A record of 16 bytes from the last word of one line on, of which one line is flushed.
 SHORT = ("store 0 0x1038 01", "store 0 0x1040 02", "clwb 0 0x1038", "sfence 0")
@@ -64,6 +65,14 @@ def random_calls(choose):
     return f"pmtrace 2 {size}", Trace(size, [read_event(event) for event, _ in events]), labels
 
 
+def random_marks(choose):
+    """The header, a trace of a few stores, some of which are marks, and labels of two sites."""
+    acts = ("s{0}@m", "s{0}@m", "s{0}.8@m", "s{0}@n", "f{0}", "f{0}", "|", "o{0}>{1}", "o{0}>{1}.8", "p{0}")
+    words = [f"t{choose.choice((0, 0, 0, 1))} {choose.choice(acts).format(*choose.sample(range(3), 2))}" for _ in range(choose.randrange(6, 18))]
+    events, labels = read_acts(" ".join(words))
+    return HEADER, Trace(64, events), labels
+
+
 def read_event(text):
     """The event of a line, in the form of machine.py."""
     word, thread, *rest = text.split()
@@ -98,29 +107,26 @@ def compare(program, folder, choose, found, random_trace=random_records):
     run = lambda *more: subprocess.run([program, "explain", *words, *more, file], capture_output=True, timeout=120).stdout
     told = run("--json", "--limit", "100")
     found += [(entry["hint"], bool(labels)) for entry in hints_of(told)] + ["path"] * told.count(b'"kind":"path"') + ["on a path"] * told.count(b'"path":"')
-    wrong = judged(explained, told, 100) or wrong_text(explained, run("--limit", "all"))
-    return wrong, f"{' '.join(map(str, words))}\n{file.read_text()}"
+    return judged(explained, told, 100), f"{' '.join(map(str, words))}\n{file.read_text()}"
 
 
 class Hints(Checks):
     def told(self, events, labels=(), *words):
-        """The hints of a trace, and the text."""
+        """The lines of a trace."""
         folder = self.new_folder()
         (folder / "trace").write_bytes(text_of([HEADER, *events]))
         (folder / "labels").write_bytes(text_of(f"{number} {label}" for number, label in enumerate(labels, 1)))
         words = [*words, *(["--labels", folder / "labels"] if labels else []), folder / "trace"]
-        run = lambda *more: subprocess.run([self.program, "explain", *more, *words], capture_output=True, text=True, timeout=60).stdout
-        return run("--json"), run("--limit", "9")
+        return subprocess.run([self.program, "explain", "--json", *words], capture_output=True, text=True, timeout=60).stdout
 
     def expect_hints(self, kind, what, events, wanted, labels=(), *words):
         """What is told as this kind: of each place the first event and how many they are."""
-        told, text = self.told(events, labels, *words)
-        found = [(entry["label"] or entry["thread"], entry["first"]["event"], entry["count"]) for entry in hints_of(told) if entry["hint"] == kind]
+        told = hints_of(self.told(events, labels, *words))
+        found = [(entry["label"] or entry["thread"], entry["first"]["event"], entry["count"]) for entry in told if entry["hint"] == kind]
         self.expect_equal(what, found, wanted)
-        return text
 
     def expect_short(self, what, events, wanted, labels=(), *words):
-        return self.expect_hints("one_line_short", what, events, wanted, labels, *words)
+        self.expect_hints("one_line_short", what, events, wanted, labels, *words)
 
     def expect_open(self, what, events, wanted):
         self.expect_hints("open_at_store", what, events, wanted, [f"x.c:{number} f" for number in range(1, len(events) + 1)])
@@ -139,48 +145,36 @@ class Hints(Checks):
             self.expect(f"calls {number}", not wrong, f"{wrong}\nof {trace}")
         self.expect("many are told of one path", all(found.count(what) > 9 for what in ("path", "on a path")), found)
 
+    def test_random_marks(self):
+        choose, folder, found = random.Random(67), self.new_folder(), []
+        for number in range(MARKS):
+            wrong, trace = compare(find(), folder, choose, found, random_marks)
+            self.expect(f"marks {number}", not wrong, f"{wrong}\nof {trace}")
+        self.expect("many are stored after a mark", found.count(("stored_after_mark", True)) > 9, found)
+
     def expect_paths(self, what, ways, wanted, *words, kind="open_at_store"):
         """Of these rounds what is told of paths alone: of each the path, the first event and how many they are."""
         events, labels = zip(*rounds(ways))
-        told, text = self.told(events, labels, *words)
-        entries = [json.loads(line) for line in told.splitlines()]
+        entries = [json.loads(line) for line in self.told(events, labels, *words).splitlines()]
         found = [(entry["path"], entry["first"]["event"], entry["count"]) for entry in entries if entry["kind"] == "hint" and entry["hint"] == kind and entry["path"]]
         found += [(entry["label"], entry["first_left"]["event"], entry["left"]) for entry in entries if entry["kind"] == "path"]
         self.expect_equal(what, found, wanted)
-        return text
 
     def test_paths(self):
         """A flush or a store in a function that callers share."""
         right, bad, late = [("right", "a.c")] * 2, [("unfenced", "b.c")] * 3, [("late", "b.c")] * 3
-        text = self.expect_paths("a caller that does not fence", right + bad, [("log.c:31 fill < save b.c:6 < main m.c:2", 14, 3)])
-        wanted = """hint: log.c:31 fill < save b.c:6 < main m.c:2: 3 times (of 5 at this place) a flush is unfenced at a
-       store that a crash can keep alone; first: event 14, store event 15 (b.c:7 save)
-  before: a crash after event 15 can keep that and lose event 13: event 13 (line 14, thread 0) at
-          log.c:30 fill < save b.c:6 < main m.c:2: store 0 0x10100 01
-"""
-        self.expect("in words", wanted in text, text)
+        self.expect_paths("a caller that does not fence", right + bad, [("log.c:31 fill < save b.c:6 < main m.c:2", 14, 3)])
         self.expect_paths("two rounds alone", right + bad[:2], [])
         self.expect_paths("one round of it fences", right + bad + [("right", "b.c")], [])
         self.expect_paths("all callers do so: it is told of the place", bad + [("unfenced", "a.c")], [])
         self.expect_paths("one whose records are claimed", right + [("vouched", "b.c")] * 3, [])
         self.expect_paths("a claim of another caller", [("claimed", "a.c")] + bad, [("log.c:31 fill < save b.c:6 < main m.c:2", 9, 3)])
-        text = self.expect_paths("one that saves them a fence late", right + late, [("log.c:30 fill < save b.c:6 < main m.c:2", 13, 3)])
-        wanted = """hint: log.c:30 fill < save b.c:6 < main m.c:2: 3 stores (of 5 at this place) are saved one fence
-       late: a crash right after the fence before can lose them and keep what that saves; first:
-       event 13
-  before: a crash after event 16"""
-        self.expect("in words", wanted in text, text)
+        self.expect_paths("one that saves them a fence late", right + late, [("log.c:30 fill < save b.c:6 < main m.c:2", 13, 3)])
         self.expect_paths("two rounds alone", right + late[:2], [])
         self.expect_paths("all callers do so: it is told of the place", late + [("late", "a.c")], [])
 
     def test_one_line_short(self):
-        text = self.expect_short("a lost rest", SHORT, [("log.c:40 flush", 3, 1)], LABELS)
-        wanted = """hint: log.c:40 flush: 1 time flushes end one cache line short of what is stored; first: event 3,
-       missed store event 2 (log.c:30 copy)
-  fix:    Flush cache line 0x1040 by thread 0 after event 3 (log.c:40 flush), before its next fence,
-          event 4 (log.c:41 fence).
-"""
-        self.expect("in words", wanted in text, text)
+        self.expect_short("a lost rest", SHORT, [("log.c:40 flush", 3, 1)], LABELS)
         more = ("store 0 0x1048 03", "store 0 0x1050 03", "clwb 0 0x1048", "sfence 0")
         self.expect_short("a rest that the next record's flush saves", SHORT + more, [], LABELS)
         mark = ("store 0 0x2000 01", "clwb 0 0x2000", "sfence 0")
@@ -218,5 +212,26 @@ class Hints(Checks):
         self.expect_open("one that begins behind it", (*batch, "isPersist 0 0x1040 64"), told)
         mark = ("store 0 0x3000 01", "clwb 0 0x3000", "sfence 0")
         self.expect_open("an order that holds", (*batch, *mark, "isOrderedBefore 0 0x1000 1 0x3000 1"), [])
-        self.expect_open("the mark of one that holds", (*batch, "isOrderedBefore 0 0x4000 1 0x1000 1"), [])
+        self.expect_open("the mark of one that holds", (*batch, "isOrderedBefore 0 0x4000 1 0x1000 1"), told)
         self.expect_open("an order that does not hold", (*batch, "isOrderedBefore 0 0x2000 1 0x1000 1"), told)
+
+    def test_stored_after_mark(self):
+        """What stands after a mark, and what is none, each by one change."""
+        for what, acts, wanted in (
+            ("a store after a mark", "s0 f0 | s1@m s2@m f1 f2 | o0>1", [("m", 5, 1)]),
+            ("in the mark's line", "s0 f0 | s1@m s1.8@m f1 | o0>1", [("m", 5, 1)]),
+            ("two of them", "s0 f0 | s1@m s2@m s3@m f1 | o0>1", [("m", 5, 2)]),
+            ("two rounds", "s0 f0 | s1@m s2@m f1 f2 | o0>1 s1@m s2@m f1 f2 | o0>1", [("m", 5, 2)]),
+            ("before the mark", "s0 f0 | s2@m s1@m f1 f2 | o0>1", []),
+            ("a fence between", "s0 f0 | s1@m | s2@m f1 f2 | o0>1", []),
+            ("from another place", "s0 f0 | s1@m s2@n f1 f2 | o0>1", []),
+            ("to the same address", "s0 f0 | s1@m s1@m f1 | o0>1", []),
+            ("of another thread", "s0 f0 | s1@m t1 s2@m f2 | t0 f1 | o0>1", []),
+            ("a mark too", "s0 f0 | s1@m s2@m f1 f2 | o0>1 o0>2", []),
+            ("in a first range", "s0 f0 | s1@m s2@m f1 f2 | o0>1 o2>5", []),
+            ("an order that fails", "s0 s1@m s2@m f0 f1 f2 | o0>1", []),
+            ("isPersist", "s0 f0 | s1@m s2@m f1 f2 | p1", []),
+            ("written over by the claim", "s0 f0 | s1@m s2@m f1 f2 | s1@k f1 | o0>1", []),
+        ):
+            events, labels = read_acts(acts)
+            self.expect_hints("stored_after_mark", what, map(spelled, events), wanted, list(labels.values()))

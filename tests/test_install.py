@@ -91,7 +91,9 @@ class Installed(Checks):
         *_, proof, kept = stamp.read_text().splitlines() if stamp.exists() else ("", "")
         if kept.split()[:1] != [hashlib.sha256(program.read_bytes()).hexdigest()]:
             proof = "not known to be proved"
-        self.expect_equal("how it was proved", told, f"{run([program, '--version']).out.strip()}: {proof}\n")
+        version = run([program, "--version"]).out.strip()
+        self.expect_equal("how it was proved", told, f"{version}: {proof}\n")
+        self.expect("it is said at once", f"installed {version} below {self.prefix}, {proof}\n" in self.told.out, self.told)
 
     def test_cpp(self):
         need("pkg-config", "pkg-config")
@@ -112,7 +114,7 @@ class Installed(Checks):
         self.expect("it is built", told == (0, "", ""), told)
         self.expect("it runs", run([folder / "hello"], cwd=folder).status == 0, "")
         told = run([self.prefix / "bin/pmtrim-lines", "hello.pool.trace.labels"], cwd=folder)
-        self.expect_equal("labels", (told.status, (folder / "hello.pool.trace.labels").read_text().splitlines()[-1]), (0, "7 hello.c:13"))
+        self.expect_equal("labels", (told.status, (folder / "hello.pool.trace.labels").read_text().splitlines()[-1]), (0, "7 hello.c:13 main"))
         for name in ("libpmem.so.1", "libpmem2.so.1"):
             self.expect(f"{name} is there", (place / "shared" / name).is_file(), name)
 

@@ -5,9 +5,8 @@ import subprocess
 
 from checks import Checks
 from explained import Explained, judged
-from explained_text import wrong_text
 from machine import FENCES, FLUSHES, Trace, entries_at, is_faithful, is_kept, least, none_can_go, random_trace, spelled, text_of
-from planted import ALONE, JSON, TEXT, in_json, in_text
+from planted import JSON, in_json
 
 # As many entries as `--limit all` stands for.
 ALL = 1_000_000
@@ -15,8 +14,8 @@ TRACES = 400
 GROUPED = 300
 LONG = 12
 PLACES = ("put.c:12 record", "put.c:14", "list.c:7 insert", "put.c:14 < main put.c:90", "put.c:14 < list.c:3")
-# How often each fault is to be noticed.
-NOTICED = 3
+# How often each fault is planted at least.
+PLANTED = 3
 
 
 def answers(head, trace):
@@ -89,15 +88,11 @@ def long_trace(choose):
 
 
 class Explaining:
-    """What `explain` tells of all findings, their groups and the tables; and which planted faults were noticed, and how often."""
+    """What `explain` tells of all findings, their groups and the tables; and which faults were planted, how often, and which were missed."""
 
     def __init__(self, program, file, choose):
         self.program, self.file, self.choose = program, file, choose
-        self.noticed = {(form, name): 0 for form, names in (("text", TEXT), ("failure", ALONE), ("JSON", JSON)) for name in names}
-        self.missed = []
-
-    def told(self, *words):
-        return subprocess.run([self.program, "explain", *words], capture_output=True, timeout=120).stdout
+        self.planted, self.missed = dict.fromkeys(JSON, 0), []
 
     def wrong(self, trace):
         """What is told wrongly, if anything; half of the traces have labels. Of what is right one copy is spoilt, and judged too."""
@@ -106,32 +101,21 @@ class Explaining:
         names = self.file.with_name("labels")
         names.write_bytes(text_of(f"{number} {label}" for number, label in labels.items()))
         explained = Explained(trace, [], labels)
-        words = ["--labels", names] * bool(labels) + ["--limit", "all", self.file]
-        told = {"text": (explained, self.told(*words)), "JSON": (explained, self.told("--json", *words))}
-        if explained.causes:
-            number = explained.causes[-1][1][0]
-            alone = Explained(trace, [], labels, {"only": "failure", "from": number, "to": number})
-            told["failure"] = (alone, self.told("--failure", str(number), *words))
-        wrong = next(filter(None, (self.judge(form, *told[form]) for form in told)), None)
+        words = ["--json", *["--labels", names] * bool(labels), "--limit", "all", self.file]
+        told = subprocess.run([self.program, "explain", *words], capture_output=True, timeout=120).stdout
+        wrong = judged(explained, told, ALL)
         if wrong:
             return f"{labels}: {wrong}"
-        self.spoil(told)
+        self.spoil(explained, told)
         return None
 
-    @staticmethod
-    def judge(form, explained, told):
-        return judged(explained, told, ALL) if form == "JSON" else wrong_text(explained, told)
-
-    def spoil(self, told):
-        """Plants of the faults that have room the one that was noticed least often."""
-        for form, name in sorted(self.noticed, key=self.noticed.get):
-            explained, right_one = told.get(form, (None, b""))
-            bad = in_json(name, right_one) if form == "JSON" and right_one else in_text(name, right_one) if right_one else None
-            if bad:
-                right = self.judge(form, explained, bad)
-                self.noticed[form, name] += 1
-                if right is None:
-                    self.missed.append(f"{form}: {name}, in\n{bad.decode()}")
+    def spoil(self, explained, told):
+        """Plants of the faults that have room the one that was planted least often."""
+        for name in sorted(self.planted, key=self.planted.get):
+            if bad := in_json(name, told):
+                self.planted[name] += 1
+                if judged(explained, bad, ALL) is None:
+                    self.missed.append(f"{name}, in\n{bad.decode()}")
                 return
 
 
@@ -163,7 +147,7 @@ class Machine(Checks):
         self.file.write_bytes(text_of([head, *map(spelled, trace.events)]))
 
     def test_explain(self):
-        """What is told of these and of others, in groups and with long ranges; of what is right the judges notice each fault that is planted."""
+        """What is told of these and of others, in groups and with long ranges; of what is right the judge notices each fault that is planted."""
         choose, by_groups = random.Random(20), random.Random(21)
         explaining = Explaining(self.program, self.file, by_groups)
         made = [(random_trace, choose, TRACES), (grouped_trace, by_groups, GROUPED), (long_trace, by_groups, LONG)]
@@ -172,6 +156,6 @@ class Machine(Checks):
                 self.write(head, trace)
                 wrong = explaining.wrong(trace)
                 self.expect("explain", wrong is None, f"{wrong}\nof\n{self.file.read_text()}")
-        for (form, name), times in explaining.noticed.items():
-            self.expect(f"{form}: {name}", times >= NOTICED, f"planted {times} times")
+        for name, times in explaining.planted.items():
+            self.expect(name, times >= PLANTED, f"planted {times} times")
         self.expect("planted faults", not explaining.missed, "\n".join(explaining.missed))

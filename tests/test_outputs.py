@@ -11,7 +11,6 @@ SCRIPT = "store 0x1000 01\nsfence\n"
 # Words, standard input, and what is written.
 WRITTEN = (
     (["check", "t"], "", REPORT),
-    (["check", "--limit", "0", "t"], "", "events 5 lines 1\nkept 4 dropped 1\nentries left out 2\n"),
     (["check"], TRACE, REPORT),
     (["trim", "t"], "", TRIMMED),
     (["trim", "-"], TRACE, TRIMMED),
@@ -42,11 +41,10 @@ class Outputs(Checks):
             self.expect_equal(f"{words} -o -", self.told(*words, "-o", "-", text=text), (0, wanted, ""))
 
     def test_stat(self):
-        for words in ([], ["--json"]):
-            wanted = self.told("stat", *words, "t")
-            self.expect("stat tells", wanted[0] == 0 and wanted[1], wanted)
-            self.expect_equal(f"stat {words} -o o", self.told("stat", *words, "-o", "o", "t"), (0, "", ""))
-            self.expect_equal(f"stat {words} -o o: the file", (self.folder / "o").read_text(), wanted[1])
+        wanted = self.told("stat", "t")
+        self.expect("stat tells", wanted[0] == 0 and wanted[1], wanted)
+        self.expect_equal("stat -o o", self.told("stat", "-o", "o", "t"), (0, "", ""))
+        self.expect_equal("stat -o o: the file", (self.folder / "o").read_text(), wanted[1])
 
     def test_status(self):
         self.expect_equal("what is lost", self.told("check", "-o", "o", "lost"), (1, "", ""))
@@ -62,8 +60,8 @@ class Outputs(Checks):
         self.expect_equal("the file stays as it was", (self.folder / "o").read_text(), "before")
 
     def test_what_is_read_stays(self):
-        read = (["check", "t"], ["trim", "t"], ["fronts", "t", "1"], ["record", "s"], ["stat", "--labels", "l", "t"], ["check", "--labels", "l", "t"])
-        for words, name in zip(read, ("t", "t", "t", "s", "l", "l")):
+        read = (["check", "t"], ["trim", "t"], ["fronts", "t", "1"], ["record", "s"], ["stat", "--labels", "l", "t"])
+        for words, name in zip(read, ("t", "t", "t", "s", "l")):
             before = (self.folder / name).read_text()
             status, out, fault = self.told(*words, "-o", f"./{name}")
             self.expect(f"{words} over {name}", (status, out) == (2, "") and f"'./{name}' is read" in fault, (status, out, fault))

@@ -1,6 +1,7 @@
 """Cuts random traces into parts and compares each with the whole by the states of machine.py: what it carries and sets aside, verdicts,
 findings and what is kept. Then faulty lines, labels, carries that are too large, a text of any length, and every device that fails.
 """
+import json
 import pathlib
 import random
 import subprocess
@@ -204,11 +205,13 @@ def same_parts(trace, header, answer, parts, events, overlap, ranges=()):
     return complaints
 
 
-def told_of_its_end(program, part, came):
+def told_of_its_end(program, part):
     """Complaints: `explain` and its page do not say that the run goes on, or count what it may still save; or do of the last part."""
     told = run_whole(program, "explain", str(part.path))
     page = run_whole(program, "explain", "--html", str(part.path))
-    failed = any(entry.endswith(" fail") for entry in came) or part.is_last and any(entry.startswith("never-persisted") for entry in came)
+    lines = map(json.loads, run_whole(program, "explain", "--json", str(part.path)).out.splitlines())
+    weights = {line["word"] for line in lines if line["kind"] == "entry"}
+    failed = bool(weights & {"fail", "suspect"}) or part.is_last and "lost" in weights
     says = (f"The trace was cut after event {len(part.numbers)}: the run goes on in part ".encode() in told.out, b": the run goes on in part " in page.out)
     right = (told.status, page.status) == (int(failed), int(failed)) and says == (not part.is_last, not part.is_last)
     return [] if right else [f"{part.path.name}: explain {told.status} {page.status}, wanted {int(failed)}; {says}"]
@@ -230,7 +233,7 @@ def random_parts(program, folder, number, kind):
     complaints = same_parts(trace, header, answer, parts, events, overlap)
     for part in parts if not complaints else []:
         came = entries_of(program, part)
-        complaints += judged_part(trace, part, came) + texts_kept(trace, part, program) + told_of_its_end(program, part, came)
+        complaints += judged_part(trace, part, came) + texts_kept(trace, part, program) + told_of_its_end(program, part)
     return complaints
 
 

@@ -196,16 +196,13 @@ def faults_told(folder):
     yield Case(["trim", folder / "none"], {Answer(4, b"", b"file fault\n")})
 
 
-def placed(run, folder):
-    """The options of `check`, and reasons below a fault's line, whose text is the program's own: what it writes with memory."""
-    trace, bad, labels = EXAMPLES / "mark_too_early.trace", folder / "bad.trace", folder / "labels"
+def reasoned(run, folder):
+    """Reasons below a fault's line, whose text is the program's own: what it writes with memory."""
+    trace, bad = EXAMPLES / "mark_too_early.trace", folder / "bad.trace"
     script = folder / "faulty.script"
     bad.write_bytes(text("store 0 0x1000 01; store 0 0x01007 01\r"))
-    labels.write_text("1 save.c:3\n2 save.c:4\n7 save.c:9 claim\n")
     script.write_text("sfence\nsfence 0\n")
     for words, status in (
-        (["check", "--labels", labels, "--limit", "1", trace], 1),
-        (["check", "--quiet", trace], 1),
         (["check", "-v", bad], 3),
         (["trim", "-v", "--stream", bad], 3),
         (["record", "-v", script], 3),
@@ -386,8 +383,8 @@ class OfTheProgram(Refusals):
     def test_faults(self):
         self.expect_sweeps(faults_told(self.folder))
 
-    def test_placed(self):
-        self.expect_sweeps(placed(self.run_refused, self.folder))
+    def test_reasoned(self):
+        self.expect_sweeps(reasoned(self.run_refused, self.folder))
 
     def test_words(self):
         self.expect_sweeps(words_answered(self.run_refused))

@@ -1,8 +1,8 @@
 """Compares the figures of `stat` with a count of the trace's text, and what does nothing with the states of machine.py; and tries words that
 are refused.
 """
-import json
 import random
+import re
 from collections import Counter
 
 import machine
@@ -12,18 +12,32 @@ from machine import FENCES, FLUSHES
 from traces import all_traces
 
 TRACES = 100
-KINDS = ("store", "clwb", "clflushopt", "clflush", "sfence", "mfence", "isPersist", "isOrderedBefore")
-COUNTS = ("flushes", "flushes_dropped", "fences", "fences_dropped")
+KINDS = ("all", "store", "bytes", "clwb", "clflushopt", "clflush", "sfence", "mfence", "isPersist", "isOrderedBefore")
 ENDS = (0, 1, 2, 4, 8, 16)
 
 
 def figures(program, *words):
-    """The objects of the JSON, by their kinds."""
-    found = {}
-    for line in run_whole(program, "stat", "--json", *words).out.decode().splitlines():
-        entry = json.loads(line)
-        found.setdefault(entry.pop("kind"), []).append(entry)
-    return found
+    """The numbers of the first lines, and the rows of each table, by the first word of its head."""
+    head, *tables = run_whole(program, "stat", *words).out.decode().split("\n\n")
+    return list(map(int, re.findall(r"\d+", head))), {table.split(":")[0].split()[0]: table.splitlines()[2:] for table in tables}
+
+
+def head_of(events, lines, size, idle):
+    """The numbers of the first lines of these events, of whose flushes and fences so many do nothing."""
+    sums = [sum(event[0] in kinds for event in events) for kinds in ((*FLUSHES, "clflush"), FENCES)]
+    shares = [number for part, whole in zip(idle, sums) for number in (part, whole, share(part, whole))]
+    return [len(events), len({event[1] for event in events}), lines, size, counts_of(events)["bytes"], *shares]
+
+
+def share(part, whole):
+    return 100 * part // whole if whole else 0
+
+
+def rows_of(events):
+    """The rows of the events of each kind, of all threads and of each."""
+    threads = sorted({int(event[1]) for event in events})
+    parts = [("all", events), *((f"thread {one}", [event for event in events if int(event[1]) == one]) for one in threads if len(threads) > 1)]
+    return [[*(str(counts_of(own)[kind]) for kind in KINDS), *name.split()] for name, own in parts]
 
 
 def events_of(text):
@@ -50,14 +64,15 @@ def sizes_of(events):
 
 
 def fences_of(events):
-    """How full the fences are."""
+    """The rows of how full the fences are."""
     sizes = sizes_of(events)
+    if not sizes:
+        return None
     bars = [sum((low < size or at == 0) and size <= high for size in sizes) for at, (low, high) in enumerate(zip((-1, *ENDS), ENDS))]
-    flushes = sum(event[0] in FLUSHES for event in events)
-    return {
-        "bars": [*bars, sum(size > ENDS[-1] for size in sizes)], "flushes": sum(sizes), "most": max(sizes, default=0),
-        "unfenced": flushes - sum(sizes),
-    }
+    tenths = 10 * sum(sizes) // len(sizes)
+    unfenced = sum(event[0] in FLUSHES for event in events) - sum(sizes)
+    last = f"  on average {tenths // 10}.{tenths % 10}, at most {max(sizes)}; flushes that no fence of their thread follows: {unfenced}"
+    return ["".join(f"{bar:9}" for bar in [*bars, sum(size > ENDS[-1] for size in sizes)]), last]
 
 
 def frame_of(label):
@@ -77,8 +92,13 @@ def places_of(events, kept, labels):
     return {place: tuple(counts) for place, counts in found.items()}
 
 
-def paid(entry):
-    return tuple(entry["pays"][name] for name in COUNTS)
+def costs_in(rows):
+    """What each row of a place says that it pays, and its name behind that."""
+    for row in rows:
+        *paid, share_paid, name = row.split(maxsplit=5)
+        flushes, idle_flushes, fences, idle_fences = map(int, paid)
+        right = int(share_paid) == share(idle_flushes + idle_fences, flushes + fences)
+        yield name if right else f"wrong share: {row}", (flushes, idle_flushes, fences, idle_fences)
 
 
 def is_in_order(costs):
@@ -102,22 +122,19 @@ def random_figures(program, folder, seed):
     file, named = folder / f"{seed}.trace", folder / f"{seed}.labels"
     file.write_bytes(machine.text_of([header, *map(" ".join, events)]))
     named.write_text(written_labels(labels))
-    told = figures(program, "--labels", named, file)
+    head, tables = figures(program, "--labels", named, file)
     kept = {number for number in trace.numbers if machine.is_kept(trace, number)}
     wanted = places_of(events, kept, labels)
-    threads = sorted({int(event[1]) for event in events})
-    summary = told["summary"][0]
-    costs = [paid(entry) for entry in told.get("place", [])]
+    costs = list(costs_in(tables.get("places", [])))
+    idle = tuple(map(sum, zip((0, 0, 0, 0), *wanted.values())))[1::2]
+    size = int(header.split()[2]) if header.startswith("pmtrace 2") else 64
     complaints = []
     for name, came, right in (
-        ("events", summary["events"], counts_of(events)),
-        ("lines", summary["cache_lines"], len(trace.lines(len(events)))),
-        ("all", tuple(summary[count] for count in COUNTS), tuple(map(sum, zip((0, 0, 0, 0), *wanted.values())))),
-        ("fences", told["fences"], [fences_of(events)]),
-        ("threads", told.get("thread", []), [{"thread": one, "events": counts_of([event for event in events if int(event[1]) == one])} for one in threads]),
-        ("places", {entry["place"]: paid(entry) for entry in told.get("place", [])}, wanted),
-        ("order", is_in_order(costs), True),
-        ("schema", summary["schema"], 1),
+        ("head", head, head_of(events, len(trace.lines(len(events))), size, idle)),
+        ("fences", tables.get("fences"), fences_of(events)),
+        ("events", [row.split() for row in tables["events"]], rows_of(events)),
+        ("places", dict(costs), wanted),
+        ("order", is_in_order([cost for _, cost in costs]), True),
     ):
         if came != right:
             complaints.append(f"{seed} {name}: {came}, wanted {right}")
@@ -135,7 +152,7 @@ clwb 1 0x1000
 NAMED = "2 log.c:75 append < main\n3 log.c:75 append < other\n4 log.c:80 commit\n5 log.c:80 commit\n"
 # Words that are refused, and what is told.
 WORDS = {
-    ("--frob",): "'--frob'",
+    ("--json",): "'--json'",
     ("a", "b"): "'b'",
 }
 
@@ -157,27 +174,20 @@ class Stats(Checks):
     def test_examples(self):
         for file in all_traces():
             events = events_of(file.read_text())
-            told = figures(self.program, file)
-            trimmed = run_whole(self.program, "trim", file).out.decode()
-            all_counts, kept = counts_of(events), counts_of(events_of(trimmed))
-            summary = told["summary"][0]
-            flushes, fences = (lambda counts: sum(counts[word] for word in (*FLUSHES, "clflush"))), (lambda counts: sum(counts[word] for word in FENCES))
-            wanted = (flushes(all_counts), flushes(all_counts) - flushes(kept), fences(all_counts), fences(all_counts) - fences(kept))
-            self.expect_equal(f"{file.stem}: events", summary["events"], all_counts)
-            self.expect_equal(f"{file.stem}: does nothing", tuple(summary[count] for count in COUNTS), wanted)
-            self.expect_equal(f"{file.stem}: fences", told["fences"], [fences_of(events)])
+            head, tables = figures(self.program, file)
+            left = events_of(run_whole(self.program, "trim", file).out.decode())
+            idle = [sum(event[0] in kinds for event in events) - sum(event[0] in kinds for event in left) for kinds in ((*FLUSHES, "clflush"), FENCES)]
+            self.expect_equal(f"{file.stem}: head", head, head_of(events, *head[2:4], idle))
+            self.expect_equal(f"{file.stem}: fences", tables.get("fences"), fences_of(events))
+            self.expect_equal(f"{file.stem}: events", [row.split() for row in tables["events"]], rows_of(events))
 
-    def test_text_has_a_screen(self):
-        folder = self.new_folder()
-        many = folder / "many.trace"
-        lines = [f"{word} {thread} 0x{0x1000 + 64 * thread:x}{bytes_}" for thread in range(256) for word, bytes_ in (("store", " 01"), ("clwb", ""))]
-        many.write_text("\n".join(["pmtrace 1", *lines, *(f"sfence {thread}" for thread in range(256))]) + "\n")
-        (folder / "long.labels").write_text("".join(f"{number} {'long.c:' + str(number) + ' x' * 90}\n" for number in range(1, 769)))
-        for words in ([], ["--labels", folder / "long.labels"]):
-            answer = run_whole(self.program, "stat", *words, many)
-            rows = answer.out.decode().splitlines()
-            self.expect(f"{words}: rows", 10 < len(rows) <= 40, f"{len(rows)} rows")
-            self.expect(f"{words}: columns", max(map(len, rows)) <= 100, max(rows, key=len))
+    def test_all_places_and_threads(self):
+        file = self.new_folder() / "many.trace"
+        file.write_text("\n".join(["pmtrace 1", *(f"clwb {thread} 0x1000" for thread in range(256))]) + "\n")
+        file.with_suffix(".trace.labels").write_text("".join(f"{number} {'long.c:' + str(number) + ' x' * 90}\n" for number in range(1, 257)))
+        _, tables = figures(self.program, file)
+        self.expect_equal("rows", {name: len(rows) for name, rows in tables.items()}, {"places": 256, "events": 257})
+        self.expect("a name is told whole", tables["places"][0].endswith(" x" * 90), tables["places"][0])
 
     def test_text_tells_the_figures(self):
         folder, words = self.small()
@@ -197,14 +207,8 @@ class Stats(Checks):
 
     def test_cut(self):
         folder, words = self.small()
-        cuts = (
-            ("6 a trace has at most 6 events\n", {"event": 6, "why": "a trace has at most 6 events"}, " was cut after event 6: a trace has at most 6 events\n"),
-            ("", {"event": None, "why": ""}, " was cut\n"),
-        )
-        self.expect_equal("a whole trace", figures(self.program, *words)["summary"][0]["cut"], None)
-        for text, wanted, told in cuts:
+        for text, told in (("6 a trace has at most 6 events\n", " was cut after event 6: a trace has at most 6 events\n"), ("", " was cut\n")):
             (folder / "small.trace.cut").write_text(text)
-            self.expect_equal(f"{text!r}: JSON", figures(self.program, *words)["summary"][0]["cut"], wanted)
             first = run_whole(self.program, "stat", *words).out.decode()
             self.expect(f"{text!r}: text", first.startswith(f"This trace{told}"), first)
         (folder / "small.trace.cut").write_text("x\n")

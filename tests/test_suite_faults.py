@@ -102,7 +102,7 @@ class Faults(Checks):
             ("kill -9 $$", "not judged: clean: pmtrim died by SIGKILL", 4),
             ("exit 9", "not judged: clean: pmtrim ended with status 9", 4),
             ("exit 0", "pmtrim explain --json did not answer", 3),
-            ("""echo '{"kind": "summary", "schema": 99}'""", "answers in schema 99, and this reads 3", 3),
+            ("""echo '{"kind": "summary", "schema": 99}'""", "answers in schema 99, and this reads 4", 3),
             ("echo nonsense", "answers what this can't read", 3),
         ):
             program = put_program(self.new_folder() / "pmtrim", text)

@@ -9,7 +9,7 @@ from typing import NamedTuple, Optional
 from causes import CUT, DROPPED, EMPTY, FAILURE, HINT, LATE, NEVER_PERSISTED, OVERWRITTEN, UNWRITTEN, Cause, Example, add_cause
 from faults import REFUSED, Fault
 
-SCHEMA = 3  # of the JSON, docs/EXPLAIN.md
+SCHEMA = 4  # of the JSON, docs/EXPLAIN.md
 TAKEN = ("cause", FAILURE, NEVER_PERSISTED, "place", DROPPED, OVERWRITTEN, UNWRITTEN, HINT)  # the kinds of lines that are read
 KIND = re.compile(r'"kind":"(\w+)"')
 # What a failure has of each cache line and byte, which may be as much as the trace: no quote stands so inside a text.
@@ -30,6 +30,7 @@ HINTS = {
     "stored_after_flush": "the store comes after the flush of its cache line, so the fence does not save it",
     "one_line_short": "the flushes end one cache line before what was stored does, so the fence does not save the rest",
     "open_at_store": "the flush is not fenced when its thread stores to another cache line, so a crash can keep that store alone",
+    "stored_after_mark": "the store comes after the one that publishes, by the same fence, so a crash can keep that and lose it",
 }
 
 

@@ -13,14 +13,13 @@ AFTER = "from here on: the run without the crash"
 
 def told_mend(program, file, picture):
     """The mend that JSON has for the crash that the picture is about; None where it is about none."""
-    crash = picture.crashes[0] if len(picture.crashes) == 1 else None
     about = re.match(r"is\w+ (\d+) fails\.|Never persisted", title_of(picture.root))
     if about is None:
         return None
     words = ["--failure", about[1]] if about[1] else ["--limit", "1000000", "--only", "never_persisted"]
     lines = subprocess.run([program, "explain", "--json", *words, file], capture_output=True, timeout=120).stdout.splitlines()
     entries = [entry for entry in map(json.loads, lines) if entry["kind"] == ("failure" if about[1] else "never_persisted")]
-    return next(entry["mend"] for entry in entries if about[1] or entry["first"]["event"] == int(crash.get("data-lost")))
+    return next(entry["mend"] for entry in entries if about[1] or entry["first"]["event"] == int(picture.crashes[0].get("data-lost")))
 
 
 def wanted_marks(trace, mend):
@@ -38,7 +37,7 @@ def wanted_marks(trace, mend):
 
 
 def marks_of(picture):
-    return [(at, mark) for at, band in enumerate(picture.bands) for mark in of_class(band.root, "g", "missing")]
+    return picture.of_class("g", "missing")
 
 
 def standing_fence(trace, mend):
@@ -57,30 +56,25 @@ def limits_are_told(trace, mark, mend):
 def mends_are_shown(picture, trace, mend):
     """Just what the mend names is marked: between its two events, in the row of its thread, with its word."""
     marks = marks_of(picture)
-    if [(mark.get("data-missing"), int(mark.get("data-thread"))) for _, mark in marks] != wanted_marks(trace, mend):
+    if [(mark.get("data-missing"), int(mark.get("data-thread"))) for mark in marks] != wanted_marks(trace, mend):
         return False
-    told = all(limits_are_told(trace, mark, mend) for _, mark in marks)
-    placed = all(is_between(picture, at, mark, mend, len(trace.events)) and is_in_row(picture.bands[at], mark) for at, mark in marks)
-    return told and placed and all(flushes_are_over_lines(band) for band in picture.bands) and are_apart(picture)
+    told = all(limits_are_told(trace, mark, mend) for mark in marks)
+    placed = all(is_between(picture, mark, mend, len(trace.events)) and is_in_row(picture, mark) for mark in marks)
+    return told and placed and flushes_are_over_lines(picture) and are_apart(picture)
 
 
-def is_between(picture, at, mark, mend, end):
-    """All events up to the mend's first one stand left of the mark, or above, and those from its second one on right, or below."""
+def is_between(picture, mark, mend, end):
+    """All events up to the mend's first one stand left of the mark, and those from its second one on right."""
     high = mend["before"] or end + 1
     low = high - 1 if mend["mend"] == "store_first" else mend["after"]
     x = int(mark.get("data-x"))
-    for other, band in enumerate(picture.bands):
-        for number, middle in band.middle.items():
-            is_left = other < at or other == at and middle < x
-            if is_left and number >= high or not is_left and number <= low:
-                return False
-    return True
+    return all(number < high if middle < x else number > low for number, middle in picture.middle.items())
 
 
-def is_in_row(band, mark):
+def is_in_row(picture, mark):
     shape, = [part for part in mark if "mend" in part.get("class", "").split()]
     word, = of_class(mark, "text", "mend-word")
-    name, = [text for text in band.root.iter(SVG + "text") if text.text == f"thread {mark.get('data-thread')}"]
+    name, = [text for text in picture.drawn.iter(SVG + "text") if text.text == f"thread {mark.get('data-thread')}"]
     if shape.tag == SVG + "rect":
         middle = int(shape.get("x")) + int(shape.get("width")) // 2, int(shape.get("y")) + int(shape.get("height")) // 2
     else:
@@ -98,22 +92,19 @@ def missing_line(mark):
     return found and found[1]
 
 
-def flushes_are_over_lines(band):
+def flushes_are_over_lines(picture):
     """Each missing flush has a small mark in the row of its line, if that is drawn, and no row has another one."""
-    marks = of_class(band.root, "g", "missing")
-    wanted = sorted((int(line, 16), int(mark.get("data-x"))) for mark in marks if (line := missing_line(mark)) and int(line, 16) in band.lines)
-    shown = [(int(row.get("data-line"), 16), part.get("d")) for row in band.rows for part in of_class(row, "path", "mend")]
+    marks = marks_of(picture)
+    wanted = sorted((int(line, 16), int(mark.get("data-x"))) for mark in marks if (line := missing_line(mark)) and int(line, 16) in picture.lines)
+    shown = [(int(row.get("data-line"), 16), part.get("d")) for row in picture.rows for part in of_class(row, "path", "mend")]
     return wanted == sorted((line, int(re.match(r"M(\d+) ", path)[1]) + 5) for line, path in shown)
 
 
 def are_apart(picture):
-    """No mark stands on an event, on another mark, on the dots or on a crash."""
-    for band in picture.bands:
-        taken = [*band.middle.values(), *(int(line.get("x1")) for name in ("cut", "crash") for line in of_class(band.root, "line", name))]
-        own = [int(mark.get("data-x")) for mark in of_class(band.root, "g", "missing")]
-        if len(set(own)) != len(own) or any(abs(x - other) < 11 for x in own for other in taken):
-            return False
-    return True
+    """No mark stands on an event, on another mark, on the dots or on the crash."""
+    taken = [*picture.middle.values(), *(int(line.get("x1")) for name in ("cut", "crash") for line in of_class(picture.drawn, "line", name))]
+    own = [int(mark.get("data-x")) for mark in marks_of(picture)]
+    return len(set(own)) == len(own) and not any(abs(x - other) < 11 for x in own for other in taken)
 
 
 def is_mended(picture, trace, mend):
@@ -134,7 +125,7 @@ def is_mended(picture, trace, mend):
 
 def put_in(picture, trace):
     """The number that each event has once the marks are put in, and the events then."""
-    marks = [mark for _, mark in marks_of(picture)]
+    marks = marks_of(picture)
     after, = {int(mark.get("data-after")) for mark in marks}
     put, moved = [], set()
     for mark in marks:
@@ -153,20 +144,14 @@ def put_in(picture, trace):
 
 
 def after_is_pale(picture):
-    """What comes after the only crash is paled, and words at its line say that the run went on without it."""
-    crash = picture.crashes[0] if len(picture.crashes) == 1 else None
-    is_after = crash is not None and any(number > int(crash.get("data-place")) for number in picture.numbers)
-    if not is_after:
-        return not picture.of_class("rect", "after") and AFTER not in picture.words()
-    place = int(crash.get("data-place"))
-    for band in picture.bands:
-        late = [middle for number, middle in band.middle.items() if number > place]
-        early = [middle for number, middle in band.middle.items() if number <= place]
-        pale = of_class(band.root, "rect", "after")
-        sides = [(int(veil.get("x")), int(veil.get("x")) + int(veil.get("width"))) for veil in pale]
-        if any(not any(left < x < right for left, right in sides) for x in late) or any(left < x < right for left, right in sides for x in early):
-            return False
-    return AFTER in picture.words()
+    """What comes after the crash is paled, and words at its line say that the run went on without it."""
+    place = int(picture.crashes[0].get("data-place")) if picture.crashes else None
+    late = [middle for number, middle in picture.middle.items() if place is not None and number > place]
+    pale = picture.of_class("rect", "after")
+    if not late:
+        return not pale and AFTER not in picture.words()
+    sides = [(int(veil.get("x")), int(veil.get("x")) + int(veil.get("width"))) for veil in pale]
+    return AFTER in picture.words() and all(any(left < x < right for left, right in sides) == (x in late) for x in picture.middle.values())
 
 
 def kept_is_told(picture, trace):

@@ -5,17 +5,13 @@ The state of a store after an event is the part of its bar that stands right of 
 import re
 import unicodedata
 
-import grouped
-from drawn import SVG, of_class, shown_stores, title_of
-from drawn_notes import TOLD, dropped_told, overwritten_told, unwritten_told
+from drawn import SVG, of_class, title_of
 from explained import Explained
-from explained_text import dropped_groups, overwritten_groups
 from machine import FENCES, FLUSHES, is_kept, spelled, verdict
 from slices import slice_of, store_slice_of
 
-COLUMNS = 120
-CRASHES = 12
-WIDTH, HEIGHT = 1400, 24000
+TOLD = 24
+WIDTH, HEIGHT = 1600, 2400
 LETTER = {"headline": 9.1, "told": 7.9, "small": 5.5}
 SIGNS = {
     *("pending", "flushed", "safe", "stored", "dot", "mark", "wait", "never", "dropped", "unfenced", "mend", "pass", "fail", "crash", "lost-store"),
@@ -33,15 +29,11 @@ def state_of(trace, store, number):
 
 def stores_are_right(picture, trace):
     """Each store that is drawn, after each event that is: its state; a bar may end only once its store is safe."""
-    drawn = {number for number in picture.numbers if trace.event(number)[0] == "store"}
-    hidden = {int(bar.get("data-event")) for band in picture.bands for bar in band.bars if not int(bar.get("data-drawn"))}
-    for store in drawn | hidden:
+    for store in (number for number in picture.numbers if trace.event(number)[0] == "store"):
         line = trace.line(store) * trace.size
         if line not in picture.lines:
             return False
         for number in picture.numbers:
-            if line not in picture.band(number).lines:
-                continue
             shown = picture.state(store, line, number)
             wanted = state_of(trace, store, number) if store <= number else None
             if shown != wanted and not (shown is None and wanted == "safe"):
@@ -52,17 +44,12 @@ def stores_are_right(picture, trace):
 def bars_are_told(picture, trace):
     """The title of a bar tells each store with its place in the line, the first flush after them, and what makes them safe."""
     last = max(picture.numbers, default=0)
-    for band in picture.bands:
-        for bar in band.bars:
-            line, more = int(bar.get("data-line"), 16), int(bar.get("data-older"))
-            stores = [number for number in shown_stores(bar, picture.numbers) if trace.event(number)[0] == "store" and trace.line(number) * trace.size == line]
-            told = [f"event {number}: {spelled(trace.event(number))}, at +{trace.event(number)[2] - line} of its line" for number in stores]
-            if not int(bar.get("data-drawn")):
-                told = [f"event {stores[0]}, a store that is not drawn" + f", and {more} more that are not" * (more > 0)]
-            elif len(stores) != int(bar.get("data-drawn")):
-                return False
-            if title_of(bar) != "; ".join([*told, *fate_of(trace, stores[-1], last)]):
-                return False
+    for bar in picture.bars:
+        line, sides = int(bar.get("data-line"), 16), range(int(bar.get("data-event")), int(bar.get("data-last")) + 1)
+        stores = [number for number in picture.numbers if number in sides and trace.event(number)[0] == "store" and trace.line(number) * trace.size == line]
+        told = [f"event {number}: {spelled(trace.event(number))}, at +{trace.event(number)[2] - line} of its line" for number in stores]
+        if len(stores) != int(bar.get("data-drawn")) or title_of(bar) != "; ".join([*told, *fate_of(trace, stores[-1], last)]):
+            return False
     return True
 
 
@@ -76,21 +63,6 @@ def fate_of(trace, store, last):
     else:
         word, thread = trace.event(saved)[:2]
         yield f"safe from event {saved} on, the {'fence' if word in FENCES else 'clflush'} of thread {thread}"
-
-
-def earlier_are_counted(picture, trace, first):
-    """The stores before the window that are not safe where it begins, line by line."""
-    for line in picture.lines:
-        bars = {
-            int(bar.get("data-event")): int(bar.get("data-older")) + 1
-            for band in picture.bands
-            for bar in band.bars
-            if int(bar.get("data-line"), 16) == line and int(bar.get("data-event")) < first
-        }
-        unsafe = [store for store in trace.stores(line // trace.size, first - 1) if not trace.is_safe(store, first - 1)]
-        if sum(bars.values()) != len(unsafe):
-            return False
-    return True
 
 
 def worth(trace, number):
@@ -111,15 +83,14 @@ def worth_shown(parts):
 
 def flushes_are_right(picture, trace):
     """In the row of its line a flush has the sign that it has in the row of its thread, and the name of its thread."""
-    for band in picture.bands:
-        for row in band.rows:
-            marks = [part for part in row if part.tag == SVG + "path" and part.get("class") != "mend"]
-            small = [part for part in row if part.tag == SVG + "text" and "small" in part.get("class").split() and part.text.startswith("T")]
-            names = [part for part in small if "mend-detail" not in part.get("class").split()]
-            flushes = [number for number in band.middle if trace.event(number)[0] in ("clflush", *FLUSHES) and trace.line(number) * trace.size == int(row.get("data-line"), 16)]
-            wanted = [(band.middle[number], f"T{trace.event(number)[1]}" + "!" * (worth(trace, number) == "unfenced"), worth(trace, number)) for number in flushes]
-            if [(int(name.get("x")), name.text, worth_shown([mark])) for name, mark in zip(names, marks)] != wanted or len(marks) != len(names):
-                return False
+    for row in picture.rows:
+        marks = [part for part in row if part.tag == SVG + "path" and part.get("class") != "mend"]
+        small = [part for part in row if part.tag == SVG + "text" and "small" in part.get("class").split() and part.text.startswith("T")]
+        names = [part for part in small if "mend-detail" not in part.get("class").split()]
+        flushes = [number for number in picture.numbers if trace.event(number)[0] in ("clflush", *FLUSHES) and trace.line(number) * trace.size == int(row.get("data-line"), 16)]
+        wanted = [(picture.middle[number], f"T{trace.event(number)[1]}" + "!" * (worth(trace, number) == "unfenced"), worth(trace, number)) for number in flushes]
+        if [(int(name.get("x")), name.text, worth_shown([mark])) for name, mark in zip(names, marks)] != wanted or len(marks) != len(names):
+            return False
     return True
 
 
@@ -175,51 +146,38 @@ def lost_by(trace, crash):
 
 
 def losses_are_marked(picture, trace):
-    """Each store that a crash loses has a mark where it begins, a word in its bar's lane, and is counted."""
-    for band in picture.bands:
-        for crash in band.crashes:
-            lost = lost_by(trace, crash)
-            marked = {int(mark.get("data-store")): mark for mark in of_class(crash, "path", "lost-store")}
-            if int(crash.get("data-losses")) != len(lost) or set(marked) != {store for store in lost if store in band.middle}:
-                return False
-            if any(f"M{band.middle[store] - 3} " not in mark.get("d") for store, mark in marked.items()):
-                return False
-            tags = {int(tag.get("y")) for tag in of_class(crash, "rect", "tag-lost")}
-            if tags != {lane - 2 for store in lost for lane in lanes_of(band, store, trace.line(store) * trace.size)}:
-                return False
-            if not losses_have_bars(picture, trace, crash, lost):
-                return False
-    return True
-
-
-def losses_have_bars(picture, trace, crash, lost):
-    """Of the crash that the picture is about each lost store that is drawn has a bar."""
-    subject = re.fullmatch(r"is\w+ (\d+) fails\.", title_of(picture.root))
-    if crash.get("data-event") != (subject and subject[1]):
-        return True
-    drawn = [store for store in lost if store in picture.numbers]
-    return all(lanes_of(picture.band(store), store, trace.line(store) * trace.size) for store in drawn)
-
-
-def marked_losses(picture):
-    """The stores with the mark of a lost one, in all bands."""
-    return sorted(int(mark.get("data-store")) for band in picture.bands for mark in of_class(band.root, "path", "lost-store"))
-
-
-def waits_are_apart(picture):
-    """In the rows of threads no line from a flush to its fence lies on another one."""
-    for band in picture.bands:
-        lines = sorted(tuple(int(line.get(side)) for side in ("y1", "x1", "x2")) for line in of_class(band.root, "line", "wait"))
-        if any(y == other and right > left for (y, _, right), (other, left, _) in zip(lines, lines[1:])):
+    """Each store that the crash loses has a mark where it begins, a bar, and a word in the bar's lane, and is counted."""
+    for crash in picture.crashes:
+        lost = lost_by(trace, crash)
+        drawn = [store for store in lost if store in picture.middle]
+        marked = {int(mark.get("data-store")): mark for mark in of_class(crash, "path", "lost-store")}
+        if int(crash.get("data-losses")) != len(lost) or set(marked) != set(drawn):
+            return False
+        if any(f"M{picture.middle[store] - 3} " not in mark.get("d") for store, mark in marked.items()):
+            return False
+        lanes = [lanes_of(picture, store, trace.line(store) * trace.size) for store in drawn]
+        tags = {int(tag.get("y")) for tag in of_class(crash, "rect", "tag-lost")}
+        if not all(lanes) or tags != {lane - 2 for sides in lanes for lane in sides}:
             return False
     return True
 
 
-def lanes_of(band, store, line):
-    """Where the bar of the store stands, if it has one in the band."""
-    for bar in band.bars:
-        is_here = int(bar.get("data-line"), 16) == line and int(bar.get("data-event")) <= store <= int(bar.get("data-last"))
-        if is_here and int(bar.get("data-drawn")):
+def marked_losses(picture):
+    """The stores with the mark of a lost one."""
+    marks = (mark for crash in picture.crashes for mark in of_class(crash, "path", "lost-store"))
+    return sorted(int(mark.get("data-store")) for mark in marks)
+
+
+def waits_are_apart(picture):
+    """In the rows of threads no line from a flush to its fence lies on another one."""
+    lines = sorted(tuple(int(line.get(side)) for side in ("y1", "x1", "x2")) for line in of_class(picture.drawn, "line", "wait"))
+    return not any(y == other and right > left for (y, _, right), (other, left, _) in zip(lines, lines[1:]))
+
+
+def lanes_of(picture, store, line):
+    """Where the bar of the store stands, if it has one."""
+    for bar in picture.bars:
+        if int(bar.get("data-line"), 16) == line and int(bar.get("data-event")) <= store <= int(bar.get("data-last")):
             return {int(part.get("y")) for part in bar.iter(SVG + "rect")}
     return set()
 
@@ -230,39 +188,52 @@ def range_is_shown(picture, trace):
     if failure is None:
         return not picture.of_class("text", "asserted")
     event = trace.event(int(failure[1]))
-    for band in picture.bands:
-        for row in band.rows:
-            line = int(row.get("data-line"), 16)
-            bytes_of = [[byte - line for byte in range(event[at], event[at + 1] + event[at]) if line <= byte < line + trace.size] for at in range(2, len(event), 2)]
-            wanted = [(found[0], found[-1]) for found in bytes_of if found]
-            if [(int(text.get("data-first")), int(text.get("data-last"))) for text in of_class(row, "text", "asserted")] != wanted:
-                return False
+    for row in picture.rows:
+        line = int(row.get("data-line"), 16)
+        bytes_of = [[byte - line for byte in range(event[at], event[at + 1] + event[at]) if line <= byte < line + trace.size] for at in range(2, len(event), 2)]
+        wanted = [(found[0], found[-1]) for found in bytes_of if found]
+        if [(int(text.get("data-first")), int(text.get("data-last"))) for text in of_class(row, "text", "asserted")] != wanted:
+            return False
     return True
 
 
 def crashes_are_right(picture, trace):
-    failing = [n for n in picture.numbers if trace.event(n)[0].startswith("is") and verdict(trace, n).endswith("fail")]
+    """A picture of a failed assertion has its crash, and no other picture has a crash that violates one."""
+    failure = re.fullmatch(r"is\w+ (\d+) fails\.", title_of(picture.root))
     crashes = [crash for crash in picture.crashes if crash.get("data-event")]
-    told = sorted(int(crash.get("data-event")) for crash in crashes)
-    return told == failing[:len(told)] and len(told) >= min(len(failing), CRASHES) and all(crash_is_right(crash, trace) for crash in crashes)
+    return [crash.get("data-event") for crash in crashes] == ([failure[1]] if failure else []) and all(crash_is_right(crash, trace) for crash in crashes)
 
 
 def story_is_right(picture, trace):
-    """Without options: what explain tells first. Of a failure its slice; else the slices of stores to a line that are never persisted; else
-    what has no effect, is written over, saved late or never stored, with what tells of that; else the first events."""
+    """Without options: what explain's first entry tells. Of a failed assertion its slice; of stores that are lost the slices of those to
+    one line, of a late one its slice; of a hint the events around it. Without an entry the events around the first flush or fence that has
+    no effect, or else the first events."""
     explained = Explained(trace, [], {})
-    if explained.causes:
-        number = explained.causes[0][1][0]
+    if explained.told.entries:
+        return entry_is_right(picture, explained, explained.told.entries[0])
+    useless = (number for number in trace.numbers if trace.event(number)[0] in (*FENCES, *FLUSHES, "clflush") and not is_kept(trace, number))
+    return picture.numbers == around(trace, next(useless, 0))
+
+
+def around(trace, number):
+    """The events around one, as many as a picture has room for."""
+    first = max(0, min(number - TOLD // 2, len(trace.events) - TOLD)) + 1
+    return list(trace.numbers)[first - 1 : first - 1 + TOLD]
+
+
+def entry_is_right(picture, explained, entry):
+    trace, number = explained.trace, entry.first
+    if entry.subject == "failure":
         is_about = title_of(picture.root) == f"{trace.event(number)[0]} {number} fails."
         return is_about and picture.numbers == slice_of(trace, number) and is_all_told(picture)
-    lost = grouped.lost(explained)
-    if lost:
-        return lost_is_right(picture, trace, lost[0][0])
-    about = first_note(explained)
-    if about is None:
-        return picture.numbers == list(trace.numbers)[:COLUMNS]
-    headline, told, left = about
-    return title_of(picture.root) == headline and picture.numbers == sorted(told) and (left > 0 or is_all_told(picture))
+    if entry.why == "never_persisted":
+        line = explained.address(trace.line(number))
+        groups = (group for group in explained.never_persisted() if group["cache_line"] == line)
+        return any(lost_is_right(picture, trace, group) for group in groups)
+    if entry.why == "late":
+        is_about = title_of(picture.root) == f"Store {number} is saved late"
+        return is_about and picture.numbers == sorted(store_slice_of(trace, number)) and is_all_told(picture)
+    return picture.numbers == around(trace, number)
 
 
 def is_all_told(picture):
@@ -279,23 +250,6 @@ def lost_is_right(picture, trace, group):
     words = f"Never persisted: {len(stores)} store{'s' if len(stores) > 1 else ''} to line {line * trace.size:#x}"
     wanted = sorted(set().union(*(store_slice_of(trace, store) for store in stores)))
     return is_crash and title_of(picture.root) == words and picture.numbers == wanted and is_all_told(picture)
-
-
-def first_note(explained):
-    """Of what explain tells first, where that is no error: the headline, the events that tell of it, and how many more have no room."""
-    trace = explained.trace
-    for _, numbers in dropped_groups(explained):
-        by = explained.reason(numbers[0])["by"]
-        return f"Event {numbers[0]} has no effect", *dropped_told(trace, numbers[0], by and by["event"])
-    for group in overwritten_groups(explained):
-        earlier, later = group["earlier"]["event"], group["later"]["event"]
-        return f"Store {earlier} is written over by store {later} before any flush", overwritten_told(trace, earlier, later), 0
-    for _, stores in grouped.late(explained):
-        return f"Store {stores[0]} is saved late", store_slice_of(trace, stores[0]), 0
-    for entry in explained.unwritten():
-        number = entry["event"]["event"]
-        return f"The assertion of event {number} speaks of bytes that no store has written", unwritten_told(trace, number), 0
-    return None
 
 
 def extent(text):
@@ -321,41 +275,31 @@ def is_on_page(picture):
     return width <= WIDTH and height <= HEIGHT and all(int(box.get("x", 0)) + int(box.get("width", 0)) <= width for box in boxes)
 
 
-def crashes_are_apart(picture):
-    """Each crash has a line of its own, with room for the word beside it: no event, no other crash and no dots stand there. No line
-    crosses the name of a crash or the words of a column, and no two names meet."""
-    for band in picture.bands:
-        lines = [crash.find(SVG + "line") for crash in band.crashes]
-        names = [extent(crash.find(SVG + "text")) for crash in band.crashes]
-        words = [extent(text) for event in of_class(band.root, "g", "event") for text in event.iter(SVG + "text") if text.get("x")]
-        sides = [int(line.get("x1")) for line in lines]
-        taken = [*band.middle.values(), *(int(line.get("x1")) for line in of_class(band.root, "line", "cut"))]
-        rooms = [range(side - 2, side + 46) for side in sides]
-        if len(set(sides)) != len(sides) or len({base for _, _, base in names}) != len(names):
+def crash_is_apart(picture):
+    """The crash has a line of its own, with room for the word beside it: no event and no dots stand there. Its line crosses no words of a
+    column and ends below its name."""
+    for crash in picture.crashes:
+        line, name = crash.find(SVG + "line"), extent(crash.find(SVG + "text"))
+        side, words = int(line.get("x1")), [extent(text) for event in picture.events for text in event.iter(SVG + "text") if text.get("x")]
+        taken = [*picture.middle.values(), *(int(cut.get("x1")) for cut in of_class(picture.drawn, "line", "cut"))]
+        if any(side - 2 <= other < side + 46 for other in taken):
             return False
-        if any(other in room for room, side in zip(rooms, sides) for other in [*taken, *sides] if other != side):
+        if any(left < side < right and base > int(line.get("y1")) for left, right, base in [name, *words]):
             return False
-        for line, side in zip(lines, sides):
-            if any(left < side < right and base > int(line.get("y1")) for left, right, base in [*names, *words]):
-                return False
     return True
 
 
 def rows_are_named(picture):
-    """In each band each thread of its events has a row, or shares the last one, and each line has its address."""
-    for band in picture.bands:
-        names = {text.text for text in band.root.iter(SVG + "text")}
-        threads = {f"thread {event.get('data-thread')}" for event in of_class(band.root, "g", "event")}
-        if not threads <= names and "other threads" not in names or not {f"{line:#x}" for line in band.lines} <= names:
-            return False
-    return True
+    """Each thread of the events has a row, and each line has its address."""
+    names = {text.text for text in picture.drawn.iter(SVG + "text")}
+    return {f"thread {event.get('data-thread')}" for event in picture.events} | {f"{line:#x}" for line in picture.lines} <= names
 
 
 def legend_is_right(picture):
     """The legend has the signs that are in use, no others, and is no higher than they need."""
     legend, = picture.of_class("g", "legend")
     shown = {name for part in legend.iter() for name in part.get("class", "").split()} & SIGNS
-    used = {name for band in picture.bands for part in band.root.iter() for name in part.get("class", "").split()} & SIGNS
+    used = {name for part in picture.drawn.iter() for name in part.get("class", "").split()} & SIGNS
     heights = [int(sign.get("transform").split()[1].rstrip(")")) for sign in legend]
     lower = max(heights) - min(heights) if heights else 0
     return shown == used and lower <= 20 * ((len(heights) + 2) // 3 - 1) + 1 and int(picture.root.get("height")) - min(heights, default=0) <= lower + 20

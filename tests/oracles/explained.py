@@ -10,6 +10,7 @@ import json
 import grouped
 import hinted
 import placed
+from entries import Entries, Run
 from machine import FENCES, FLUSHES, Trace, entries_at, is_empty_fence, is_kept, least, spelled
 
 KINDS = ("failure", "never_persisted", "dropped", "overwritten", "unwritten", "late", "hint")
@@ -100,8 +101,7 @@ class Explained:
     def cause_entry(self, key, members):
         assertion, why, (origin, name) = key
         named = {"label": None, "thread": None, origin: name}
-        counts = {name: found[: grouped.FEW] for name, found in grouped.inside(self, members).items()}
-        return {"kind": "cause", "assertion": assertion, "why": why, "count": len(members), "events": members, **named, **counts}
+        return {"kind": "cause", "assertion": assertion, "why": why, "count": len(members), "events": members, **named}
 
     def byte_stores(self, span, place):
         """The last store to each byte of the range, the first by number and then by byte first."""
@@ -279,15 +279,26 @@ class Explained:
         where = {"cache_line": None, "label": None, "cache_line" if key[0] == "line" else "label": key[1]}
         return {"kind": "late", "count": len(stores), "first": self.event(stores[0]), **where}
 
-    def row_entry(self, kind, key, row):
-        counts = dict(zip(("stores", "flushes", "fences", "dropped"), row))
-        return {"kind": kind, kind: key, **counts}
+    # What is told first
+
+    @functools.cached_property
+    def told(self):
+        """The entries of all of the trace, and the verdict."""
+        whole = self if self.is_whole() else Explained(self.trace, self.ignored, self.labels, None, self.places)
+        run = Run(self.trace.size, self.trace.events, self.labels, self.is_ignored)
+        return Entries(run, list(hinted.entries(whole)), [whole.cause_entry(*cause) for cause in whole.causes])
+
+    def weighed(self, entry):
+        sites = [{"label": None, "thread": None, kind: name} for kind, name in entry.sites]
+        told = {"sites": sites[:100], "more_sites": max(0, len(sites) - 100)}
+        return {**entry._asdict(), "kind": "entry", "first": self.event(entry.first), **told}
 
     # The whole
 
     def all_entries(self):
         """The entries of each kind; of a cause its first member is told in full."""
         return {
+            "entry": [self.weighed(entry) for entry in self.told.entries] if self.is_whole() else [],
             "cause": [self.cause_entry(*cause) for cause in self.causes],
             "failure": [self.failure(members[0]) for _, members in self.causes],
             "never_persisted": self.never_persisted(),
@@ -298,8 +309,6 @@ class Explained:
             "path": list(placed.entries_of(self, "path", placed.left_paths(self))),
             "hint": list(hinted.entries(self)),
             "late": [self.late_entry(*group) for group in grouped.late(self)],
-            "thread": [self.row_entry("thread", *row) for row in grouped.thread_rows(self.trace)],
-            "label": [self.row_entry("label", *row) for row in grouped.label_rows(self)],
         }
 
     def summary(self, limit, entries):
@@ -313,7 +322,8 @@ class Explained:
             counts[f"{kind}_dropped_percent"] = 100 * dropped // counts[kind] if counts[kind] else 0
         return {
             "kind": "summary",
-            "schema": 3,
+            "schema": 4,
+            "verdict": self.told.verdict,
             "lacks": [],
             "asked": self.asked_words(),
             "events": self.end,

@@ -1,26 +1,12 @@
-"""What `explain` hints at, by the definitions: four sets of events, their groups by kind and place, one also by call path, and places and paths by
-what becomes of their stores.
+"""What `explain` hints at, by the definitions: five sets of events, and their groups by kind and place, one also by call path.
 
 What a run can reach, and so what is kept, is that of machine.py. Places are those of placed.py.
 """
 import functools
 
-from grouped import ANY_FLUSH, fences_waited, grouped, safe_place
+from grouped import fences_waited, grouped, safe_place
 from machine import FENCES, FLUSHES, is_kept, verdict
-from placed import CALLER, LEAST, is_left, left_paths, name_of, path, place, rows, saved_before
-
-HEADING = "hints: no rule forbids these, but most are slips; they do not change the exit status:"
-WORDS = {
-    "split_word": "a word lies in two cache lines; a crash can keep one part",
-    "stored_after_flush": "a store comes too late for the flush of its cache line",
-    "one_line_short": "flushes end one cache line short of what is stored",
-    "open_at_store": "a flush is unfenced at a store that a crash can keep alone",
-}
-OTHERS = {"split_word": "other part", "stored_after_flush": "flush", "one_line_short": "missed store", "open_at_store": "store"}
-FIXES = {
-    "split_word": "Lay the word out in one cache line, or let a log or a checksum vouch for both parts.",
-}
-
+from placed import CALLER, LEAST, path, place
 
 def own(trace, thread, words, numbers):
     """Those of these events that the thread makes by one of these words."""
@@ -110,11 +96,38 @@ def kept_flushes(explained, key_of=place):
 
 
 @functools.lru_cache(maxsize=1)
+def claims(explained):
+    """Of the assertions that pass, each with its ranges."""
+    trace, found = explained.trace, []
+    for number in trace.numbers:
+        word, _, *fields = trace.event(number)
+        if word.startswith("is") and verdict(trace, number).endswith("pass"):
+            found.append((number, [fields[at : at + 2] for at in range(0, len(fields), 2)]))
+    return found
+
+
+@functools.lru_cache(maxsize=1)
 def claimed_lines(explained):
-    """The lines of which an assertion that passes has a byte."""
-    trace = explained.trace
-    claims = [number for number in trace.numbers if trace.event(number)[0].startswith("is") and verdict(trace, number).endswith("pass")]
-    return {byte // trace.size for number in claims for byte in explained.bytes_of(number)}
+    """The lines of which an assertion that passes claims that a byte is saved: a second range is not."""
+    return {byte // explained.trace.size for _, ranges in claims(explained) for byte in range(ranges[0][0], sum(ranges[0]))}
+
+
+@functools.lru_cache(maxsize=1)
+def ordered(explained):
+    """Of the isOrderedBefore that pass, as of each of them, the last stores to the bytes of first ranges, and to those of second ranges: marks."""
+    orders = [(number, ranges) for number, ranges in claims(explained) if len(ranges) == 2]
+    return [{store for number, ranges in orders for store in explained.trace.last_stores(*ranges[at], number)} for at in (0, 1)]
+
+
+def mark_before(explained, number):
+    """Stored after its mark: a store that is no mark and in no first range. Before it, without a fence of its thread between, the thread makes a mark, at
+    the same place and another address."""
+    trace, (firsts, marks) = explained.trace, ordered(explained)
+    if trace.event(number)[0] != "store" or number in firsts | marks:
+        return None
+    before = [mark for mark in own(trace, trace.event(number)[1], ("store",), range(1, number)) if mark in marks and number in until_fence(trace, mark)]
+    found = [mark for mark in before if place(explained, mark) == place(explained, number) and trace.event(mark)[2] != trace.event(number)[2]]
+    return found[-1] if found else None
 
 
 def are_open(explained, flushes):
@@ -135,7 +148,13 @@ def is_told_on_path(explained, number):
     return bool(store_elsewhere(explained, number, path)) and not are_open(explained, kept_flushes(explained)[place(explained, number)])
 
 
-SETS = {"split_word": half_before, "stored_after_flush": flush_before, "one_line_short": missed_before, "open_at_store": store_elsewhere}
+SETS = {
+    "split_word": half_before,
+    "stored_after_flush": flush_before,
+    "stored_after_mark": mark_before,
+    "one_line_short": missed_before,
+    "open_at_store": store_elsewhere,
+}
 
 
 @functools.lru_cache(maxsize=1)
@@ -143,7 +162,7 @@ def hints(explained):
     """Of each hint its kind, place and events: those of one kind with most events first, and of as many that with the lowest one."""
     found = []
     for kind, goes_with in SETS.items():
-        events = [number for number in explained.trace.numbers if explained.is_asked("hint", number) and goes_with(explained, number)]
+        events = [number for number in explained.trace.numbers if goes_with(explained, number)]
         found += [(kind, key, numbers) for key, numbers in grouped((place(explained, number), number) for number in events)]
     return found
 
@@ -151,129 +170,17 @@ def hints(explained):
 @functools.lru_cache(maxsize=1)
 def path_hints(explained):
     """Of each path of which three events or more are open at a store, and that are told of the path alone, its label and these events."""
-    events = [number for number in explained.trace.numbers if explained.is_asked("hint", number) and is_told_on_path(explained, number)]
+    events = [number for number in explained.trace.numbers if is_told_on_path(explained, number)]
     return [(key[1], numbers) for key, numbers in grouped((path(explained, number), number) for number in events) if len(numbers) >= LEAST]
 
 
 def entries(explained):
-    """What the JSON has of them."""
+    """What the JSON has of those whose first event is asked for."""
     for kind, (origin, name), numbers in hints(explained):
-        own = {"label": None, "thread": None, "path": None, origin: name}
-        yield {"kind": "hint", "hint": kind, "count": len(numbers), "first": explained.event(numbers[0]), **own}
+        if explained.is_asked("hint", numbers[0]):
+            own = {"label": None, "thread": None, "path": None, origin: name}
+            yield {"kind": "hint", "hint": kind, "count": len(numbers), "first": explained.event(numbers[0]), **own}
     for label, numbers in path_hints(explained):
-        own = {"label": label.partition(CALLER)[0], "thread": None, "path": label}
-        yield {"kind": "hint", "hint": "open_at_store", "count": len(numbers), "first": explained.event(numbers[0]), **own}
-
-
-def hinted_places(explained):
-    """The places at which something is hinted, but for those that are saved one fence late."""
-    return {key for _, key, _ in hints(explained)} | {place(explained, numbers[0]) for _, numbers in path_hints(explained)}
-
-
-# In words
-
-
-def named(explained, number):
-    """The event, with the innermost frame of its label."""
-    label = explained.labels.get(number)
-    return f"event {number}" + ("" if label is None else f" ({label.partition(CALLER)[0]})")
-
-
-def fix(explained, kind, number):
-    """What to do about the event."""
-    if kind in FIXES:
-        return FIXES[kind]
-    if kind == "open_at_store":
-        return f"If that store may not be saved first, fence before {named(explained, store_past(explained.trace, number))}; isOrderedBefore claims the order."
-    trace, fence = explained.trace, until_fence(explained.trace, number).stop
-    at = f", {named(explained, fence)}" if fence <= len(trace.events) else ""
-    line, thread = explained.address(trace.line(number) + (kind == "one_line_short")), trace.event(number)[1]
-    return f"Flush cache line {line} by thread {thread} after {named(explained, number)}, before its next fence{at}."
-
-
-@functools.lru_cache(maxsize=1)
-def left(explained):
-    """The places without another hint that lose and delay no store, and each of whose stores one fence of its thread leaves unsafe, if hints
-    at all places are asked for; then the paths of which that is so alone. Of each its name, how many stores its place has, and its row."""
-    if any(value is not None for name, value in explained.asked.items() if name != "only") or explained.asked["only"] not in (None, "hint"):
-        return []
-    hinted = hinted_places(explained)
-    stores = {key: row["stores"] for key, row in rows(explained)}
-    places = [(name_of(key), None, row) for key, row in rows(explained) if key not in hinted and is_left(row)]
-    paths = [(key[1], place(explained, row["first"]), row) for key, row in left_paths(explained)]
-    return places + [(name, stores[key], row) for name, key, row in paths if key not in hinted]
-
-
-def of_in_words(of):
-    return f" (of {of} at this place)" if of else ""
-
-
-def in_words(explained, number):
-    """The event as a row names it."""
-    event = explained.event(number)
-    at = f" at {event['label']}" if event["label"] else ""
-    return f"event {number} (line {event['line']}, thread {event['thread']}){at}: {event['words']}"
-
-
-def loss(explained, flush):
-    """What a crash loses at the store at which the flush is open: the last store that the flush covers."""
-    trace, kept = explained.trace, store_past(explained.trace, flush)
-    lost = [number for number in range(1, flush) if trace.event(number)[0] == "store" and trace.line(number) == trace.line(flush)][-1]
-    return f"  before: a crash after event {kept} can keep that and lose event {lost}: {in_words(explained, lost)}"
-
-
-def left_lines(explained):
-    """Two lines for each such place or path, and two more where a crash keeps a store without the first one."""
-    for name, of, row in left(explained):
-        count, number = row["left"], row["first_left"]
-        stores, them = ("1 store is", "it") if count == 1 else (f"{count} stores{of_in_words(of)} are", "them")
-        yield f"hint: {name}: {stores} saved one fence late: a crash right after the fence before can lose {them} and keep what that saves; first: event {number}"
-        saved = saved_before(explained, number)
-        if saved:
-            fence, kept = saved
-            yield f"  before: a crash after event {fence} keeps this store and can lose event {number}: {in_words(explained, kept)}"
-        if saved and number < kept:
-            line, thread = explained.address(explained.trace.line(number)), explained.trace.event(number)[1]
-            flush = f"Flush cache line {line} by thread {thread} after {named(explained, number)}, and fence"
-            yield f"  fix:    {flush}, both before {named(explained, kept)}: after one fence for both a crash can still keep that alone."
-        else:
-            yield f"  fix:    {fix(explained, 'stored_after_flush', number)}"
-        if saved:
-            yield f"  or:     See that recovery does not follow event {kept} to what event {number} stores."
-
-
-def lines(explained):
-    """The lines of each hint."""
-    told = [(kind, name_of(key), numbers, 0) for kind, key, numbers in hints(explained)]
-    for label, numbers in path_hints(explained):
-        of = sum(place(explained, flush) == place(explained, numbers[0]) for flush in kept_of_any_kind(explained))
-        told.append(("open_at_store", label, numbers, of))
-    for kind, name, numbers, of in told:
-        times = "1 time" if len(numbers) == 1 else f"{len(numbers)} times"
-        other = f"{OTHERS[kind]} {named(explained, SETS[kind](explained, numbers[0]) or store_past(explained.trace, numbers[0]))}"
-        yield f"hint: {name}: {times}{of_in_words(of)} {WORDS[kind]}; first: event {numbers[0]}, {other}"
-        if kind == "open_at_store":
-            yield loss(explained, numbers[0])
-        yield f"  fix:    {fix(explained, kind, numbers[0])}"
-    yield from left_lines(explained)
-
-
-def first_share(explained):
-    """Where the first hint of a screen is, and of how many flushes or stores there it is so: hints of paths come before those of places."""
-    counts = dict(rows(explained))
-    found = {"path": [(label, len(numbers), place(explained, numbers[0])) for label, numbers in path_hints(explained)][:1]}
-    for kind, key, numbers in hints(explained):
-        found.setdefault(kind, [(name_of(key), len(numbers), key)])
-    for what in ("left_path", "left"):
-        most = sorted((row for row in left(explained) if bool(row[1]) == (what == "left_path")), key=lambda row: -row[2]["left"])[:1]
-        found[what] = [(name, row["left"], place(explained, row["first"])) for name, _, row in most]
-    order = ("path", "left_path", "open_at_store", "stored_after_flush", "one_line_short", "left", "split_word")
-    kind, (name, count, key) = next((kind, found[kind][0]) for kind in order if found.get(kind))
-    kept = sum(place(explained, flush) == key for flush in kept_of_any_kind(explained))
-    all_of = {"path": kept, "open_at_store": kept, "one_line_short": counts[key]["flushes"]}.get(kind, counts[key]["stores"])
-    return f"first at {name}, {count} of {all_of} time{'' if all_of == 1 else 's'}"
-
-
-def kept_of_any_kind(explained):
-    """The flushes that are kept, also those that wait for no fence."""
-    return [number for number in explained.trace.numbers if explained.trace.event(number)[0] in ANY_FLUSH and is_kept(explained.trace, number)]
+        if explained.is_asked("hint", numbers[0]):
+            own = {"label": label.partition(CALLER)[0], "thread": None, "path": label}
+            yield {"kind": "hint", "hint": "open_at_store", "count": len(numbers), "first": explained.event(numbers[0]), **own}

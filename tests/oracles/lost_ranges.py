@@ -1,9 +1,12 @@
 """What the text of `explain` says of the range that a failed assertion keeps: its cache lines, and the bytes of it that a crash loses."""
 from machine import FENCES, FLUSHES, spelled
-from stories import plural
 
 # Of lines, and of rows of bytes, so many are shown.
 MOST = 8
+
+
+def plural(count, noun):
+    return f"{count} {noun}" if count == 1 else f"{count} {noun}s"
 
 
 def lost_bytes(explained, failure):

@@ -1,6 +1,7 @@
 """Which events show a failed assertion, or a store that is lost or late, by the states of all runs."""
 from machine import FENCES, FLUSHES, Trace
-from stories import told_by
+
+ANY_FLUSH = ("clflush", *FLUSHES)
 
 
 class Plain(Trace):
@@ -22,6 +23,27 @@ class Plain(Trace):
             if self.is_flush_of(later, line, FLUSHES):
                 waiting.add(thread)
         return False
+
+
+def first(numbers, wanted):
+    return next(filter(wanted, numbers), None)
+
+
+def told_by(trace, store, place):
+    """The events up to the place that tell what becomes of a store, by the states of all runs."""
+    line = trace.line(store)
+    safe = first(range(place + 1), lambda at: trace.is_safe(store, at))
+    after = range(store + 1, place + 1)
+    found = {store, safe}
+    if safe is not None and trace.event(safe)[0] in FENCES:
+        thread = trace.event(safe)[1]
+        found.add(first(after, lambda at: trace.event(at)[1] == thread and trace.is_flush_of(at, line, FLUSHES)))
+    flush = first(after, lambda at: trace.is_flush_of(at, line, ANY_FLUSH))
+    found.add(flush)
+    if flush is not None:
+        fence = first(range(flush + 1, place + 1), lambda at: trace.event(at)[0] in FENCES)
+        found |= {fence} if fence is not None and (safe is None or fence <= safe) else set()
+    return found - {None}
 
 
 def slice_of(trace, number):

@@ -8,6 +8,9 @@ import subprocess
 import machine
 from crowded import random_trace
 from page_machine import read_trace
+from screened import ROW
+
+LOST, KEPT = "a crash can lose it", "a crash can keep it"
 
 
 class Told:
@@ -72,9 +75,6 @@ def words_of_text(text):
     return None if "--json" in kept else ["--at", place, "--all", *itertools.chain(*(("--line", f"{address}:{stores}") for stores, address in lines))]
 
 
-ROW = re.compile(r" {4,}(?P<event>\d+)  .*?(?:  (?P<note>kept|lost(?:, with (?P<beside>\d+) more stores? of the range)?))?$")
-
-
 def last_in(case, span, number):
     """The last store to each byte of the range up to the event."""
     found = {}
@@ -95,24 +95,17 @@ def is_persisted(case, entry, store):
 
 
 def wrong_story(case, entry, text):
-    """What is wrong with the story of a failure: its events rise, and by the crash that is told the lost one is lost, and the kept one kept."""
-    lines = text.splitlines()
-    start = next(at for at, line in enumerate(lines) if line.startswith("error: a crash can "))
-    story = lines[start + 1 : next(at for at, line in enumerate(lines) if re.match("  (hint|early|but|fix): ", line))]
-    rows = [(int(found["event"]), found) for found in map(ROW.match, story) if found]
-    events, notes = [event for event, _ in rows], {found["note"].split(",")[0]: (event, found) for event, found in rows if found["note"]}
-    crash = next(at for at, line in enumerate(story) if re.match(r" +-+  crash", line))
-    lost, found = notes["lost"]
+    """What is wrong with the story of a failure: its events rise and are those of the trace, and by the crash that is told
+    the lost one is lost, and the kept one kept."""
+    rows = [row for row in map(ROW.match, text.splitlines()) if row]
+    events, notes = [int(row["event"]) for row in rows], {note: int(row["event"]) for row in rows for note in (LOST, KEPT) if note in row["rest"]}
     losing = [store for store in last_in(case, entry["ranges"][0], entry["event"]["event"]) if not is_persisted(case, entry, store)]
     right = (
         events == sorted(set(events))
-        and len(rows) == len(story) - 1
-        and all((event <= entry["place"]) == (at < crash) for at, event in enumerate(events))
+        and all(case.events[event - 1][0] == row["word"] for event, row in zip(events, rows))
         and entry["event"]["event"] in events
-        and lost in losing
-        and int(found["beside"] or 0) == len(losing) - 1
-        and (entry["kept"] is None) == ("kept" not in notes)
-        and ("kept" not in notes or is_persisted(case, entry, notes["kept"][0]))
-        and max(map(len, story)) <= 100
+        and notes.get(LOST) in losing
+        and (entry["kept"] is None) == (KEPT not in notes)
+        and (KEPT not in notes or is_persisted(case, entry, notes[KEPT]))
     )
-    return None if right else f"{case.file.name}: the story of {entry['event']['event']} is {story}"
+    return None if right else f"{case.file.name}: the story of {entry['event']['event']} is {text}"

@@ -1,5 +1,5 @@
-"""The rows of a page, compared with the text and the JSON of `explain`: causes, places, hints and overwritten stores, with their counts, in
-their order, and what is told of each.
+"""The rows of a page, compared with the JSON of `explain`: causes, places, hints and overwritten stores, with their counts, in their order, and what is
+told of each.
 
 The traces are the examples, random ones with labels, one with a hint of each kind, and one with hints of call paths.
 """
@@ -8,10 +8,11 @@ import pathlib
 import random
 import re
 
-from broken import joined
 from called import rounds
 from crowded import random_trace
+from entries import Run
 from machine import spelled, text_of
+from page_machine import read_trace
 from page_walk import examples
 
 TRACES = 6
@@ -19,7 +20,8 @@ LABELS = ["a.c:1 put", "b.c:2 get < main a.c:9", "b.c:2 get < other c.c:7", "c.c
 
 # A word over two lines; a store that misses the flush of its line; a flush that is open at a store to another line; a table that is saved
 # one fence after the pointer to it; a place that loses a part; one that saves stores late, but for one that waits for one fence; one where
-# just one of two waits for one fence; and two whose stores are overwritten, more of them by the same bytes.
+# just one of two waits for one fence; two whose stores are overwritten, more of them by the same bytes; and a mark that another
+# store comes after.
 HINTED = """store 0 0x103c aaaaaaaa|split.c:1 put
 store 0 0x1040 bbbbbbbb|split.c:1 put
 clwb 0 0x1000|split.c:2 put
@@ -76,25 +78,17 @@ store 3 0x9038 01|short.c:1 put
 store 3 0x9040 01|short.c:1 put
 clwb 3 0x9000|short.c:2 put
 sfence 3|short.c:3 put
+store 4 0xa000 01|mark.c:1 put
+clwb 4 0xa000|mark.c:2 put
+sfence 4|mark.c:3 put
+store 4 0xa040 01|mark.c:4 put
+store 4 0xa048 01|mark.c:4 put
+clwb 4 0xa040|mark.c:5 put
+sfence 4|mark.c:6 put
+isOrderedBefore 4 0xa000 1 0xa040 1|mark.c:7 put
 """
 
-PLACE = re.compile(r"^(?:error|warning|note): (.*): \d+ stores?: (\d+) never persisted, (\d+) saved late, (\d+) in time", re.M)
-# Places that lose all they store to one cache line, which nothing flushes, are one entry of the text: how many, their stores, their names.
-SHARED = re.compile(r"^error: cache line 0x[0-9a-f]+ is never flushed: (\d+) places lose all that they store to it, (\d+) stores?: (.*)$", re.M)
-HINT = re.compile(r"^hint: (.*): (\d+) (?:time|store)s? .*; first: event (\d+)(?:, [a-z ]+ event (\d+)(?: \(.*\))?)?\n(?:  before: (.*)\n)?  fix:    (.*)", re.M)
-# The page names an event by its whole label, the text by the innermost frame.
-CALLERS = re.compile(r" < [^()]*(?=\))")
-# The text names the store to fence before, which the page has in a row of its own.
-STORE_NAMED = re.compile(r"(?<=fence before )event (\d+)(?: \(.*\))?(?=;)")
 EVENT = re.compile(r"\bevent (\d+)")
-WAITED = re.compile(r"^ {4,}(\d+)  .*  late: left unsafe by (\d+) fences$", re.M)
-ERROR = re.compile(r"^error: a crash .*?(?: \((\d+) times\))?$", re.M)
-INSIDE = re.compile(r"^  (next|range|stored|called): +(.*)$", re.M)
-
-# The rows of what is counted inside a cause, by name and words.
-INSIDE_ROWS = """[...document.querySelectorAll('#details dt')].map((name) => [name.textContent, name.nextSibling.textContent])
-  .filter(([name]) => ['next', 'range', 'stored', 'called'].includes(name))"""
-
 # What a crash keeps without a store, in the words of the chosen hint.
 BEFORE = "[...document.querySelectorAll('#details dt')].filter((name) => name.textContent === 'before').map((name) => name.nextSibling.textContent)"
 
@@ -110,85 +104,67 @@ def rows(pages, part):
     return pages.browser.run(ROWS.replace("PART", part))
 
 
-def wrong_causes(pages, text, told):
+def wrong_causes(pages, told, _):
     """Failed assertions, by cause."""
     found = [count for count, _, _ in rows(pages, "failure")]
     causes = [entry["count"] for entry in told if entry["kind"] == "cause"]
-    errors = [int(times or 1) for times in ERROR.findall(text)]
-    return "" if found == causes == errors else f"{found} on the page, {errors} in the text, {causes} in the JSON"
+    return "" if found == causes else f"{found}, and not {causes}"
 
 
-def wrong_inside(pages, text, _):
-    """What is counted inside a cause, as its first assertion is chosen by its row."""
-    for at, wanted in enumerate(INSIDE.findall(entry) for entry in re.split(r"^(?=[a-z]+: )", text, flags=re.M) if ERROR.match(entry)):
-        pages.browser.run(f"document.querySelectorAll('#groups ul.failure button.group')[{at}].click()")
-        found = [tuple(row) for row in pages.browser.run(INSIDE_ROWS)]
-        cut = [(name, words[: len(other) - 1] + "…" if other.endswith("…") else words) for (name, words), (_, other) in zip(found, wanted)]
-        if len(found) != len(wanted) or cut != wanted:
-            return f"{found}, and not {wanted}"
-    return ""
-
-
-def wrong_places(pages, text, told):
+def wrong_places(pages, told, _):
     """What is never persisted or late, by place."""
     found = [(where, *map(int, re.findall(r"\d+", words)[:3])) for _, words, where in rows(pages, "place")]
     listed = [entry for entry in told if entry["kind"] == "place" and entry["never_persisted"] + entry["late"]]
-    listed = [(entry["label"] or f"thread {entry['thread']}", *(entry[member] for member in ("never_persisted", "late", "in_time"))) for entry in listed]
-    places = [(name, *map(int, counts)) for name, *counts in PLACE.findall(text)]
-    shared = [place for entry in SHARED.findall(text) for place in sharing(listed, *entry)]
-    right = found == listed and places == [place for place in listed if place not in shared]
-    return "" if right else f"{found} on the page, {places} and {shared} in the text, {listed} in the JSON"
+    listed = [(name_of(entry), *(entry[member] for member in ("never_persisted", "late", "in_time"))) for entry in listed]
+    return "" if found == listed else f"{found}, and not {listed}"
 
 
-def sharing(listed, many, stores, names):
-    """The places that an entry of the text names, if they are as many and lose as many stores as it says, and save none."""
-    named = [place for place in listed if place[0] in names.split(", ")]
-    right = len(named) == int(many) and sum(lost for _, lost, _, _ in named) == int(stores) and not any(late + saved for *_, late, saved in named)
-    return named if right else []
+def name_of(entry):
+    return entry.get("path") or entry["label"] or f"thread {entry['thread']}"
 
 
-def wrong_late(pages, text, told):
+def wrong_late(pages, told, run):
     """Each place that is late, as it is chosen: its count, and for how many fences its first store waited."""
     for place in (entry for entry in told if entry["kind"] == "place" and entry["late"]):
         number = place["first_late"]["event"]
         pages.browser.run(f"page.choose(page.findings.find('late', {number}))")
         headline, _, details = pages.browser.run(TOLD)
-        waited = dict(WAITED.findall(text)).get(str(number))
         members = pages.browser.run("[...lateMembers(page.trace, page.view.finding.entry)]")
-        if f" {place['late']} store" not in headline or waited and f"{waited} fence" not in headline or f"event {number} (" not in details:
+        if f" {place['late']} store" not in headline or f"{run.waited(number)} fence" not in headline or f"event {number} (" not in details:
             return f"{place} is told as {headline}{details}"
         if len(members) != place["late"] or members[0] != number:
             return f"{place} has the members {members}"
     return ""
 
 
-def with_store(fix, store):
-    """What the page says to do, where the text names this store."""
-    return STORE_NAMED.sub(lambda named: "it" if named[1] == store else named[0], fix)
+def left(told, hints):
+    """The places, and then the paths, that are saved one fence late and have no other hint."""
+    hinted = {(hint["label"], hint["thread"]) for hint in hints}
+    for entry in told:
+        if entry["kind"] in ("place", "path") and 0 < entry["left"] == entry["in_time"] and not entry["never_persisted"] + entry["late"]:
+            label = entry["label"] and entry["label"].partition(" < ")[0]
+            if (label, entry["thread"]) not in hinted:
+                yield entry["left"], name_of(entry), entry["first_left"]["event"], entry["saved_before"] and entry["saved_before"]["store"]["event"]
 
 
-def wrong_hints(pages, text, _):
-    """Each hint as it is chosen by its row: count, place, first event, the one that it goes with, what a crash keeps without it, and what
-    to do."""
-    wanted = [
-        (int(count), name, f"event {first} (", other and f"event {other} (", EVENT.findall(before), with_store(fix, other))
-        for name, count, first, other, before, fix in HINT.findall(text)
-    ]
+def wrong_hints(pages, told, _):
+    """Each hint as it is chosen by its row: count, place, first event, what a crash keeps without it, and that something is to do."""
+    hints = [entry for entry in told if entry["kind"] == "hint"]
+    wanted = [(hint["count"], name_of(hint), hint["first"]["event"], None) for hint in hints] + list(left(told, hints))
     found = rows(pages, "hint")
     if [(count, where) for count, _, where in found] != [(count, name) for count, name, *_ in wanted]:
         return f"{found}, and not {wanted}"
-    for at, (count, name, *parts, before, fix) in enumerate(wanted):
+    for at, (count, name, first, kept) in enumerate(wanted):
         pages.browser.run(f"document.querySelectorAll('#groups ul.hint button.group')[{at}].click()")
         headline, mend, details = pages.browser.run(TOLD)
-        if f" {count} " not in headline or name not in details or any(part not in details for part in parts) or CALLERS.sub("", mend.strip()) != fix:
+        if f" {count} " not in headline or name not in details or f"event {first} (" not in details or not mend.strip():
             return f"{headline} {details} {mend}, and not {wanted[at]}"
-        told = pages.browser.run(BEFORE)
-        if [EVENT.findall(row) for row in told] != ([before] if before else []):
-            return f"{told}, and not the events {before}"
+        if kept and str(kept) not in [event for row in pages.browser.run(BEFORE) for event in EVENT.findall(row)]:
+            return f"{details}, and not what a crash keeps: {kept}"
     return ""
 
 
-def wrong_overwritten(pages, _, told):
+def wrong_overwritten(pages, told, _):
     """Overwritten stores by the place of the earlier one, those with most other bytes first."""
     groups = {}
     for entry in sorted((entry for entry in told if entry["kind"] == "overwritten"), key=lambda entry: (entry["same"] - entry["count"], -entry["count"])):
@@ -202,7 +178,6 @@ def wrong_overwritten(pages, _, told):
 
 WRONG = {
     "causes": wrong_causes,
-    "counts inside causes": wrong_inside,
     "places": wrong_places,
     "late stores": wrong_late,
     "hints": wrong_hints,
@@ -234,11 +209,11 @@ def written(folder, name, trace, labels):
 def agree(pages):
     for name, trace, words in traces(pages.folder):
         page, _ = pages.make(trace, *words, name="rows")
-        text = "\n".join(joined(pages.explain("--limit", "1000", *words, file=trace).decode().split("\n")))
         told = [json.loads(line) for line in pages.explain("--json", "--limit", "1000", *words, file=trace).splitlines()]
         pages.open(page)
+        run = Run(*read_trace(pathlib.Path(trace).read_bytes()), {})
         for what, wrong in WRONG.items():
-            yield f"{what} of {name} are those of text and JSON", wrong(pages, text, told)
+            yield f"{what} of {name} are those of the JSON", wrong(pages, told, run)
         yield f"console of the rows of {name}", pages.faults(page)
     kinds = pages.browser.run("page.findings.groups.filter((g) => g.section === 'hint').map((g) => g.entry.hint)")
-    yield "a hint of each kind was told", "" if set(kinds) == {"split_word", "stored_after_flush", "one_line_short", "open_at_store", "one_fence_late"} else kinds
+    yield "a hint of each kind was told", "" if set(kinds) == {"split_word", "stored_after_flush", "one_line_short", "open_at_store", "stored_after_mark", "one_fence_late"} else kinds

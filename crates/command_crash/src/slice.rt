@@ -10,7 +10,7 @@ use pmt_asked::Labels;
 use pmt_explain::failure;
 use pmt_model::{Selection, Trace};
 use pmt_slices::{Slice, sliced, store_sliced};
-use pmt_text::write::{push_number, write_trace};
+use pmt_text::write::write_trace;
 use std::alloc::{AllocError, Global};
 use std::io::{Read, Write};
 
@@ -93,10 +93,9 @@ fn write_beside<O: Opener>(
 fn numbers_text(alloc: Global, numbers: &Selection) -> Result<Vec<u8>, AllocError> {
     let mut text = Vec::new(alloc);
     for (index, number) in numbers.numbers().iter().enumerate() {
-        push_number(&mut text, 10, index as u64 + 1)?;
-        text.push(b' ')?;
-        push_number(&mut text, 10, *number)?;
-        text.push(b'\n')?;
+        let own = index as u64 + 1;
+        let line = format!(in alloc; "{own} {number}\n")?;
+        text.extend_from_slice(line.as_bytes())?;
     }
     Ok(text)
 }
@@ -106,10 +105,9 @@ fn labels_text(alloc: Global, numbers: &Selection, labels: &Labels) -> Result<Ve
     let mut text = Vec::new(alloc);
     for (index, number) in numbers.numbers().iter().enumerate() {
         if let Some(label) = labels.get(*number) {
-            push_number(&mut text, 10, index as u64 + 1)?;
-            text.push(b' ')?;
-            text.extend_from_slice(label.as_bytes())?;
-            text.push(b'\n')?;
+            let (own, label) = (index as u64 + 1, label.as_str());
+            let line = format!(in alloc; "{own} {label}\n")?;
+            text.extend_from_slice(line.as_bytes())?;
         }
     }
     Ok(text)

@@ -8,14 +8,17 @@ const PLAIN: &[u8] = b"\x1b[0m";
 
 // What begins a line, and how it is shown there.
 const HEADS: &[(&[u8], &[u8])] = &[
-    (b"error:", b"\x1b[1;31m"),
-    (b"warning:", b"\x1b[1;33m"),
+    (b"FAIL:", b"\x1b[1;31m"),
+    (b"LOST:", b"\x1b[1;31m"),
+    (b"SUSPECT:", b"\x1b[1;31m"),
+    (b"CHECK:", b"\x1b[1;33m"),
+    (b"PROBABLY OK:", b"\x1b[1;32m"),
+    (b"OK:", b"\x1b[1;32m"),
+    (b"OK so far:", b"\x1b[1;32m"),
     (b"note:", b"\x1b[1;36m"),
-    (b"hint:", b"\x1b[1;36m"),
-    (b"hints:", b"\x1b[1m"),
-    (b"table:", b"\x1b[1m"),
-    (b"places:", b"\x1b[1m"),
-    (b"  fix:", b"\x1b[1;32m"),
+    (b"Maybe meant", b"\x1b[1;36m"),
+    (b"next:", b"\x1b[1m"),
+    (b"    fix:", b"\x1b[1;32m"),
 ];
 
 // How the number of a source line is shown.

@@ -8,15 +8,15 @@ use crate::sources::sources_of;
 use crate::taking::{Taken, taken_of};
 use crate::told::Beside;
 use command_inputs::{
-    Doing, Fault, Lacked, Lacking, Opener, Watch, labels_of, lacking_of, no_failure, read_file,
-    read_ignored, write_named,
+    Fault, Lacked, Lacking, Opener, labels_of, lacking_of, no_failure, read_file, read_ignored,
+    write_named,
 };
 use command_requests::{Color, ExplainWords, Form};
 use pmt_asked::Labels;
 use pmt_explain_json::{Lack, json_text};
 use pmt_explain_run::explained;
 use pmt_explain_text::{Screen, source_places, text};
-use pmt_explanation::{Explanation, has_failed};
+use pmt_explanation::{Explanation, status_of};
 use pmt_model::OutOfMemory;
 use pmt_sources::Sources;
 use std::alloc::{AllocError, Global};
@@ -24,16 +24,16 @@ use std::io::{Read, Write};
 use std::thread::Threads;
 
 // The lines of a text where the words don't say how many entries are shown.
-const ROWS: usize = 40;
+const ROWS: usize = 24;
 
 /// Explains the trace of the file or of `input`, and writes what is asked for to the file that is named, or to `out`, which shows colors
-/// or not. The files of what is ignored and of labels are read and judged first. What it is doing is told to `watch`, which lets go
-/// before the answer is written. The status is 1 where an assertion fails, or a store is never persisted that is not ignored.
+/// or not. The files of what is ignored and of labels are read and judged first. The status is that of the verdict.
 ///
 /// # Errors
-/// The fault of a file of what is ignored, of the labels, of the trace, that no failed assertion is where one was asked for, the fault of the
-/// folder of the source files, that of the write: the first of them. Each names the file and says why.
-pub fn run_explain<T: Threads + Sync, O: Opener, I: Read, W: Write, P: Watch>(
+/// A usage fault, where the words want labels and there are none; the fault of a file of what is ignored, of the labels, of the trace, that no
+/// failed assertion is where one was asked for, the fault of the folder of the source files, that of the write: the first of them. Each names
+/// the file and says why.
+pub fn run_explain<T: Threads + Sync, O: Opener, I: Read, W: Write>(
     rt: &T,
     alloc: Global,
     words: &mut ExplainWords<'_>,
@@ -41,15 +41,13 @@ pub fn run_explain<T: Threads + Sync, O: Opener, I: Read, W: Write, P: Watch>(
     input: &mut I,
     out: &mut W,
     colors: bool,
-    watch: &mut P,
 ) -> Result<u8, Fault>
     ensures { IfOk result (λ status. status ≤ 1) }
 {
-    watch.tell(Doing::ReadingFiles);
+    judge_labels(alloc, words)?;
     add_ignored(alloc, files, words)?;
     let labels = labels_of(alloc, files, words.labels)?;
-    watch.tell(Doing::Waiting);
-    let taken = taken_of(alloc, files, words, input, watch)?;
+    let taken = taken_of(alloc, files, words, input)?;
     let lacking = lacking_of(alloc, files, words.file)?;
     let lacks = lacks_of(alloc, lacking.all.as_slice())?;
     let known = Known {
@@ -58,7 +56,25 @@ pub fn run_explain<T: Threads + Sync, O: Opener, I: Read, W: Write, P: Watch>(
         lacks,
         colors: is_colored(words, colors),
     };
-    explain_taken(rt, alloc, files, words, &known, taken, out, watch)
+    explain_taken(rt, alloc, files, words, &known, taken, out)
+}
+
+// That there are labels, where the words want some.
+fn judge_labels(alloc: Global, words: &ExplainWords<'_>) -> Result<(), Fault> {
+    if words.labels.is_some() {
+        return Ok(());
+    }
+    let option = if words.source.is_some() {
+        "--source"
+    } else if words.options.choice.label.is_some() {
+        "--label"
+    } else if !words.options.ignored.places.is_empty() {
+        "--ignore-label"
+    } else {
+        return Ok(());
+    };
+    let message = format!(in alloc; "'{option}' wants '--labels', the file that names the events");
+    Err(Fault::usage_of(alloc, message))
 }
 
 // Adds what the files tell to ignore.
@@ -114,8 +130,8 @@ fn is_colored(words: &ExplainWords<'_>, colors: bool) -> bool {
     }
 }
 
-// Explains the trace that was taken. The status is 1 where an assertion fails, or a store is never persisted that is not ignored.
-fn explain_taken<T: Threads + Sync, O: Opener, W: Write, P: Watch>(
+// Explains the trace that was taken, and gives the status.
+fn explain_taken<T: Threads + Sync, O: Opener, W: Write>(
     rt: &T,
     alloc: Global,
     files: &O,
@@ -123,7 +139,6 @@ fn explain_taken<T: Threads + Sync, O: Opener, W: Write, P: Watch>(
     known: &Known,
     taken: Taken,
     out: &mut W,
-    watch: &mut P,
 ) -> Result<u8, Fault>
     requires { IsSweptTrace taken.swept }
     ensures { IfOk result (λ status. status ≤ 1) }
@@ -138,12 +153,11 @@ fn explain_taken<T: Threads + Sync, O: Opener, W: Write, P: Watch>(
         text.as_slice(),
         &mut explanation,
         out,
-        watch,
     )
 }
 
 // Writes what is asked for of the explained trace with this text.
-fn tell<O: Opener, W: Write, P: Watch>(
+fn tell<O: Opener, W: Write>(
     alloc: Global,
     files: &O,
     words: &ExplainWords<'_>,
@@ -151,30 +165,19 @@ fn tell<O: Opener, W: Write, P: Watch>(
     bytes: &[u8],
     explanation: &mut Explanation,
     out: &mut W,
-    watch: &mut P,
 ) -> Result<u8, Fault>
     ensures { IfOk result (λ status. status ≤ 1) }
 {
     judge_failure(alloc, explanation, words.failure)?;
-    watch.tell(writing(words.form));
-    let status = if has_failed(explanation, !known.lacking.knows_losses) {
+    let status = if status_of(explanation, !known.lacking.knows_losses, words.is_strict) {
         1
     } else {
         0
     };
     let answer = answer_of(alloc, files, explanation, known, words, bytes)?;
     let read = read_files(alloc, words)?;
-    watch.end();
     write_named(alloc, files, words.out, read.as_slice(), answer, out)?;
     Ok(status)
-}
-
-// That an answer of this form is written.
-fn writing(form: Form) -> Doing {
-    match form {
-        Form::Text | Form::Json => Doing::Writing,
-        Form::Page => Doing::WritingPage,
-    }
 }
 
 // The files that are read, where they are named.
@@ -246,23 +249,23 @@ fn answer_of<O: Opener>(
 }
 
 // The text for people, with lines of source files where their folder is named.
-fn text_with_sources<O: Opener>(
+fn text_with_sources<'a, O: Opener>(
     alloc: Global,
     files: &O,
     explanation: &Explanation,
-    known: &Known,
-    words: &ExplainWords<'_>,
+    known: &'a Known,
+    words: &'a ExplainWords<'a>,
 ) -> Result<Vec<u8>, Fault> {
     let Some(folder) = words.source else {
         return Ok(people_text(alloc, explanation, known, words, None)?);
     };
-    let choice = &words.options.choice;
-    let wanted = source_places(alloc, explanation, &known.labels, choice)?;
+    let screen = screen_of(known, words, None);
+    let wanted = source_places(alloc, explanation, &known.labels, &screen)?;
     let sources = sources_of(alloc, files, folder, words.out, wanted.as_slice())?;
     Ok(people_text(alloc, explanation, known, words, Some(&sources))?)
 }
 
-// The text for people: a screen, or all rows where a limit or one failure is asked for; with these lines of source files.
+// The text for people, with these lines of source files.
 fn people_text(
     alloc: Global,
     explanation: &Explanation,
@@ -270,17 +273,36 @@ fn people_text(
     words: &ExplainWords<'_>,
     sources: Option<&Sources<'_>>,
 ) -> Result<Vec<u8>, OutOfMemory> {
+    let screen = screen_of(known, words, sources);
+    text(alloc, explanation, &known.labels, &screen)
+}
+
+// What the text is: a screen, or all entries where a limit or one failure is asked for.
+fn screen_of<'a>(
+    known: &'a Known,
+    words: &'a ExplainWords<'a>,
+    sources: Option<&'a Sources<'a>>,
+) -> Screen<'a> {
     let is_whole = words.is_limited || words.failure.is_some();
-    let screen = Screen {
+    Screen {
         rows: if is_whole { None } else { Some(ROWS) },
         choice: &words.options.choice,
         ignored: &words.options.ignored,
         trace: words.file,
-        labels: words.labels,
+        labels: told_labels(words),
         lacking: known.lacking.told.as_str(),
         knows_verdicts: known.lacking.knows_verdicts,
         knows_losses: known.lacking.knows_losses,
         sources,
-    };
-    text(alloc, explanation, &known.labels, &screen)
+    }
+}
+
+// The labels file, where it is not the one that stands beside the trace, so that commands name it.
+fn told_labels<'a>(words: &ExplainWords<'a>) -> Option<&'a str> {
+    let name = words.labels?;
+    if name.strip_suffix(".labels") == words.file {
+        None
+    } else {
+        Some(name)
+    }
 }

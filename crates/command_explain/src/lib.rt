@@ -4,6 +4,7 @@
 mod colors;
 mod drawing;
 mod explain;
+mod first_told;
 mod labels;
 mod page;
 mod page_sources;

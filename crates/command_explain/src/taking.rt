@@ -3,11 +3,11 @@ ghost use Rattle.std.specs.Prelude.{IfOk};
 ghost use Rattle.pmt_explain_run.specs.Sweeping.{IsSweptTrace};
 
 use command_inputs::{
-    Fault, Input, Opener, Recalling, Recalls, Watch, WatchedReader, opened, recalled, untaken_fault,
+    Fault, Input, Opener, Recalling, Recalls, counted_reader, opened, untaken_fault,
 };
 use command_requests::{ExplainWords, Form};
 use pmt_explain_run::{SweptTrace, swept_trace};
-use pmt_text::{Counted, TextSource};
+use pmt_text::TextSource;
 use std::alloc::{AllocError, Global};
 use std::io::Read;
 
@@ -23,37 +23,35 @@ pub(crate) struct Taken {
 ///
 /// # Errors
 /// The fault of the file, of the read, or of the first line that is refused; `OutOfMemory`.
-pub(crate) fn taken_of<O: Opener, I: Read, P: Watch>(
+pub(crate) fn taken_of<O: Opener, I: Read>(
     alloc: Global,
     files: &O,
     words: &ExplainWords<'_>,
     input: &mut I,
-    watch: &mut P,
 ) -> Result<Taken, Fault>
     ensures { IfOk result (λ taken. IsSweptTrace taken.swept) }
 {
     match words.file {
         Some(name) => {
             let reader = opened(alloc, files, name)?;
-            take_reader(alloc, words, reader, watch)
+            take_reader(alloc, words, reader)
         }
-        None => take_reader(alloc, words, input, watch),
+        None => take_reader(alloc, words, input),
     }
 }
 
 // The trace that the reader gives.
-fn take_reader<R: Read + Drop, P: Watch>(
+fn take_reader<R: Read + Drop>(
     alloc: Global,
     words: &ExplainWords<'_>,
     reader: R,
-    watch: &mut P,
 ) -> Result<Taken, Fault>
     ensures { IfOk result (λ taken. IsSweptTrace taken.swept) }
 {
-    let reader = recalled(alloc, reader, recalls_for(words.form))?;
-    let mut source = TextSource::new(alloc, Counted::new(WatchedReader::new(reader, watch)));
+    let reader = counted_reader(alloc, reader, recalls_for(words.form))?;
+    let mut source = TextSource::new(alloc, reader);
     let swept = swept_trace(alloc, &mut source);
-    let reader = source.into_input().into_inner().into_inner();
+    let reader = source.into_input().into_inner();
     match swept {
         Ok(swept) => {
             let text = shown_text(alloc, words.form, reader)?;

@@ -1,14 +1,10 @@
 -- What the devices of commands hold.
 use Rattle.std.specs.Prelude.{ℕ, List, ◌∷◌, Option, option_map}
 use Rattle.command_inputs.specs.declared.recalling.Recalling.{Recalling}
-use Rattle.command_inputs.specs.declared.watching.WatchedReader.{WatchedReader}
 
 -- The reader or writer inside.
 abbrev pub recalled_device : {D : Type 0} → Recalling D → D
 recalled_device r = r.device
-
-abbrev pub watched_reader : {R W : Type 0} → WatchedReader R W → Recalling R
-watched_reader w = w.reader
 
 -- What a lent writer holds, where that is known, behind the name that proofs give the loan. Whoever writes behind what is held leaves that name,
 -- and with it the same writer.

@@ -27,11 +27,8 @@ pub(crate) fn buffered<R: Read + Drop>(alloc: Global, reader: R) -> Result<BufRe
     }
 }
 
-/// The reader behind a buffer, which recalls this.
-///
-/// # Errors
-/// `OutOfMemory`.
-pub fn recalled<R: Read + Drop>(
+// The reader behind a buffer, which recalls this.
+fn recalled<R: Read + Drop>(
     alloc: Global,
     reader: R,
     recalls: Recalls,
@@ -45,7 +42,7 @@ pub fn recalled<R: Read + Drop>(
     }
 }
 
-/// The same, whose failures are counted.
+/// The reader behind a buffer, which recalls this, and whose failures are counted.
 ///
 /// # Errors
 /// `OutOfMemory`.

@@ -1,4 +1,4 @@
-//! The file that a recorder writes beside a trace that is not all of what happened.
+//! Files that a recorder writes beside a trace: where it was cut, and what its events are called.
 
 use crate::bytes::has_control;
 use crate::fault::Fault;
@@ -46,10 +46,38 @@ pub fn read_standing<O: Opener>(
     files: &O,
     name: &str,
 ) -> Result<Option<Vec<u8>>, Fault> {
+    if stands(alloc, files, name)? {
+        Ok(Some(read_file(alloc, files, name)?))
+    } else {
+        Ok(None)
+    }
+}
+
+/// The name of the labels file beside the trace with this name, FILE.labels, if there is one.
+///
+/// # Errors
+/// The fault of the file, where it can't be asked for; `OutOfMemory`.
+pub fn standing_labels<O: Opener>(
+    alloc: Global,
+    files: &O,
+    file: Option<&str>,
+) -> Result<Option<String>, Fault> {
+    let Some(file) = file else {
+        return Ok(None);
+    };
+    let name = format!(in alloc; "{file}.labels")?;
+    if stands(alloc, files, name.as_str())? {
+        Ok(Some(name))
+    } else {
+        Ok(None)
+    }
+}
+
+// Whether there is a file with this name.
+fn stands<O: Opener>(alloc: Global, files: &O, name: &str) -> Result<bool, Fault> {
     match files.size(name) {
-        Ok(Some(_)) => Ok(Some(read_file(alloc, files, name)?)),
-        Ok(None) => Ok(None),
-        Err(OpenError::System(error)) if is_absent(error.kind()) => Ok(None),
+        Ok(size) => Ok(size.is_some()),
+        Err(OpenError::System(error)) if is_absent(error.kind()) => Ok(false),
         Err(error) => Err(open_fault(alloc, name, error)),
     }
 }

@@ -127,7 +127,7 @@ fn add_missing(alloc: Global, name: &str, text: &[u8], lacking: &mut Lacking) ->
         };
         has_bytes = has_bytes || kind == "bytes";
         has_fences = has_fences || kind == "fences";
-        let told = format!(in alloc; "  {kind} {count} {what}\n")?;
+        let told = format!(in alloc; "  {count} {what}\n")?;
         lacking.told.push_str(told.as_str())?;
         push_lacked(alloc, &mut lacking.all, kind, Some(count), what)?;
         rest = later;
@@ -149,7 +149,7 @@ that is never persisted here may be saved, so explain gives no status 1 for it.
 ";
 
 const FENCES: &str =
-    "Fences may have come so: what passes is true, and what fails may be a false alarm.\n";
+    "Each may have been a fence: what passes here is true, and what fails may be a false alarm.\n";
 
 // The kind, the count and the words of the line, if it says what is missing.
 fn judged(line: &[u8]) -> Option<(&str, u64, &str)> {

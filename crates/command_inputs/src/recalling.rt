@@ -182,11 +182,6 @@ impl Memory {
         }
     }
 
-    /// How many lines were read to their ends, where lines are recalled.
-    pub fn ended(&self) -> u64 {
-        self.ended
-    }
-
     /// What was read last, or all that was read, where that is recalled.
     ///
     /// # Errors

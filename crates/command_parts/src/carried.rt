@@ -6,18 +6,7 @@ use command_requests::PartsWords;
 use indexmap::IndexMap;
 use pmt_model::{Op, OutOfMemory, Trace, line_of};
 use pmt_parts::{Part, place_in};
-use std::alloc::Global;
-
-/// The cache line to which the most stores are carried.
-#[derive(Clone, Copy)]
-struct Fullest {
-    // the address of its first byte
-    addr: u64,
-    // how many bytes it has
-    size: u64,
-    // how many stores to it are carried
-    stores: u64,
-}
+use std::alloc::{AllocError, Global};
 
 /// Refuses a part that begins with more carried events than half of its most events.
 ///
@@ -32,80 +21,54 @@ pub(crate) fn check_carried(
     if carried <= words.events / 2 {
         return Ok(());
     }
-    let fullest = fullest_line(alloc, part, carried)?;
-    Err(too_much(alloc, words, part.place, carried, fullest)?)
+    let (name, place, events) = (input_of(words).name(), part.place, words.events);
+    let hint = hint_of(alloc, &part.trace, carried)?;
+    let hint = hint.as_str();
+    Err(Fault::refused(format!(in alloc;
+        "{name}: {carried} events are carried over event {place}: more than half of a part's {events}\n{hint}\n"
+    )))
 }
 
-// The line to which the most of the carried stores go, the first one of those; none where no store is carried.
-fn fullest_line(alloc: Global, part: &Part, carried: u64) -> Result<Option<Fullest>, OutOfMemory> {
+// What is carried, and how to leave it out.
+fn hint_of(alloc: Global, trace: &Trace, carried: u64) -> Result<String, AllocError> {
+    let Some((line, stores)) = fullest_line(alloc, trace, carried)? else {
+        return String::from_str(alloc, "they are flushes whose threads do not fence");
+    };
+    let size = trace.format().line_size();
+    let addr = line.saturating_mul(size);
+    format!(in alloc;
+        "stores to line {addr:#x} among them: {stores}, with no complete flush after them; --ignore {addr:#x}:{size} leaves them out"
+    )
+}
+
+// A line to which the most of the carried stores go, and how many do; none where no store is carried.
+fn fullest_line(
+    alloc: Global,
+    trace: &Trace,
+    carried: u64,
+) -> Result<Option<(u64, u64)>, OutOfMemory> {
     let mut counts: IndexMap<u64, u64> = IndexMap::new(alloc);
+    let mut fullest = None;
+    let mut most = 0;
     for number in 1..=carried {
-        if let Some(line) = stored_line(&part.trace, number) {
-            count_store(&mut counts, line)?;
+        let Some(line) = stored_line(trace, number) else {
+            continue;
+        };
+        let stores = counts.get(&line).copied().unwrap_or(0).saturating_add(1);
+        counts.insert(line, stores)?;
+        if stores > most {
+            most = stores;
+            fullest = Some((line, stores));
         }
     }
-    let size = part.trace.format().line_size();
-    Ok(greatest_of(&counts, size))
+    Ok(fullest)
 }
 
 // The line to which the event with this number stores; none where it is no store.
 fn stored_line(trace: &Trace, number: u64) -> Option<u64> {
-    let Some(event) = trace.get(number) else {
-        return None;
-    };
-    let op = event.op;
+    let op = trace.get(number)?.op;
     match op {
         Op::Store(store) => Some(line_of(trace.format(), store.addr())),
         _ => None,
     }
-}
-
-// Counts one store more to the line.
-fn count_store(counts: &mut IndexMap<u64, u64>, line: u64) -> Result<(), OutOfMemory> {
-    let count = counts.get(&line).copied().unwrap_or(0);
-    counts.insert(line, count.saturating_add(1))?;
-    Ok(())
-}
-
-// The line of this size with the most stores.
-fn greatest_of(counts: &IndexMap<u64, u64>, size: u64) -> Option<Fullest> {
-    let mut found = 0;
-    let mut most = 0;
-    for (line, stores) in counts.iter() {
-        if *stores > most {
-            most = *stores;
-            found = *line;
-        }
-    }
-    if most == 0 {
-        return None;
-    }
-    Some(Fullest {
-        addr: found.saturating_mul(size),
-        size,
-        stores: most,
-    })
-}
-
-// The fault.
-fn too_much(
-    alloc: Global,
-    words: &PartsWords<'_>,
-    place: u64,
-    carried: u64,
-    fullest: Option<Fullest>,
-) -> Result<Fault, Fault> {
-    let name = input_of(words).name();
-    let events = words.events;
-    let mut text = format!(in alloc;
-        "{name}: {carried} events are carried over event {place}: more than half of a part's {events}\n"
-    )?;
-    let hint = match fullest {
-        Some(Fullest { addr, size, stores }) => format!(in alloc;
-            "stores to line {addr:#x} among them: {stores}, with no complete flush after them; --ignore {addr:#x}:{size} leaves them out\n"
-        )?,
-        None => format!(in alloc; "they are flushes whose threads do not fence\n")?,
-    };
-    text.push_str(hint.as_str())?;
-    Ok(Fault::Refused(text))
 }

@@ -19,7 +19,7 @@ pub(crate) fn cut_text(
     if !turn.is_last {
         let next = turn.number.saturating_add(1);
         let line = format!(in alloc; "{last} the run goes on in part {next}\n")?;
-        return Ok(Some(bytes_of(alloc, line.as_str())?));
+        return Ok(Some(line.into_bytes()));
     }
     let Some(cut) = whole else {
         return Ok(None);
@@ -29,12 +29,5 @@ pub(crate) fn cut_text(
     }
     let why = cut.why.as_str();
     let line = format!(in alloc; "{last} {why}\n")?;
-    Ok(Some(bytes_of(alloc, line.as_str())?))
-}
-
-// The bytes of the text.
-fn bytes_of(alloc: Global, text: &str) -> Result<Vec<u8>, AllocError> {
-    let mut bytes = Vec::new(alloc);
-    bytes.extend_from_slice(text.as_bytes())?;
-    Ok(bytes)
+    Ok(Some(line.into_bytes()))
 }

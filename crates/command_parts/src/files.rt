@@ -91,26 +91,21 @@ pub(crate) fn write_part<O: Opener, R: Read + Drop>(
     let name = part_name(alloc, words.out, turn.number)?;
     let name = name.as_str();
     let mut outputs = Vec::with_capacity(alloc, 5)?;
-    add_output(
-        alloc,
-        &mut outputs,
-        name,
-        "",
-        write_trace(alloc, &part.trace)?,
-    )?;
+    let trace = write_trace(alloc, &part.trace)?;
+    outputs.push(Output::new(alloc, name, "", trace)?)?;
     let told = part_text(alloc, words, part, turn, aside.as_slice())?;
-    add_output(alloc, &mut outputs, name, ".part", told)?;
+    outputs.push(Output::new(alloc, name, ".part", told)?)?;
     if beside.labels.is_named() {
         let named = beside.labels.text(alloc, part.numbers.as_slice())?;
-        add_output(alloc, &mut outputs, name, ".labels", named)?;
+        outputs.push(Output::new(alloc, name, ".labels", named)?)?;
     }
     if let Some(text) = cut_text(alloc, part, turn, beside.cut.as_ref())? {
-        add_output(alloc, &mut outputs, name, ".cut", text)?;
+        outputs.push(Output::new(alloc, name, ".cut", text)?)?;
     }
     if let Some(missing) = &beside.missing {
         let mut text = Vec::new(alloc);
         text.extend_from_slice(missing.as_slice())?;
-        add_output(alloc, &mut outputs, name, ".missing", text)?;
+        outputs.push(Output::new(alloc, name, ".missing", text)?)?;
     }
     check_outputs(alloc, words, files, outputs.as_slice())?;
     remove_beside(alloc, words, files, name, turn.number)?;
@@ -145,22 +140,4 @@ pub(crate) fn check_outputs<O: Opener>(
 /// `OutOfMemory`.
 pub(crate) fn part_name(alloc: Global, prefix: &str, number: u64) -> Result<String, AllocError> {
     format!(in alloc; "{prefix}.{number:04}.trace")
-}
-
-/// Adds the file whose name ends so to the others.
-///
-/// # Errors
-/// `OutOfMemory`.
-pub(crate) fn add_output(
-    alloc: Global,
-    outputs: &mut Vec<Output>,
-    name: &str,
-    ending: &str,
-    text: Vec<u8>,
-) -> Result<(), Fault> {
-    let output = Output::new(alloc, name, ending, text)?;
-    match outputs.push(output) {
-        Ok(()) => Ok(()),
-        Err(_) => Err(Fault::OutOfMemory),
-    }
 }

@@ -3,7 +3,6 @@
 use crate::reading::piece_error;
 use command_inputs::{Fault, Opener, label_of, opened};
 use pmt_parts::Pieces;
-use pmt_text::write::push_number;
 use std::alloc::{AllocError, Global};
 use std::collections::BTreeMap;
 use std::io::Read;
@@ -15,10 +14,8 @@ type Labels = BTreeMap<u64, String>;
 #[derive(Drop)]
 pub(crate) struct PartLabels<'a, R> {
     held: Labels,
-    // none where no file is named, or its end was read
+    // none where no file is named
     file: Option<LabelFile<'a, R>>,
-    // whether a file is named
-    is_named: bool,
 }
 
 /// A labels file.
@@ -57,13 +54,12 @@ impl<'a, R: Read + Drop> PartLabels<'a, R> {
         Ok(PartLabels {
             held: Labels::new(alloc),
             file,
-            is_named: name.is_some(),
         })
     }
 
     /// Whether a labels file is named.
     pub(crate) fn is_named(&self) -> bool {
-        self.is_named
+        self.file.is_some()
     }
 
     /// Reads the labels of the events up to this one.
@@ -100,10 +96,9 @@ impl<'a, R: Read + Drop> PartLabels<'a, R> {
         let mut text = Vec::new(alloc);
         for (index, number) in numbers.iter().enumerate() {
             if let Some(label) = self.held.get(number) {
-                push_number(&mut text, 10, index as u64 + 1)?;
-                text.push(b' ')?;
-                text.extend_from_slice(label.as_bytes())?;
-                text.push(b'\n')?;
+                let (own, label) = (index as u64 + 1, label.as_str());
+                let line = format!(in alloc; "{own} {label}\n")?;
+                text.extend_from_slice(line.as_bytes())?;
             }
         }
         Ok(text)
@@ -137,28 +132,14 @@ impl<R: Read> LabelFile<'_, R> {
 
     // Adds the label of the line that was read, if its event comes by this one.
     fn take_line(&mut self, alloc: Global, held: &mut Labels, end: u64) -> Result<bool, Fault> {
-        let (event, text) = match label_of(
-            alloc,
-            self.name,
-            self.number,
-            self.line.as_slice(),
-            self.event,
-        ) {
-            Ok((event, text)) => (event, text),
-            Err(fault) => return Err(fault),
-        };
+        let line = self.line.as_slice();
+        let (event, text) = label_of(alloc, self.name, self.number, line, self.event)?;
         if event > end {
             return Ok(false);
         }
-        hold(held, event, String::from_str(alloc, text)?)?;
+        held.insert(event, String::from_str(alloc, text)?)?;
         self.event = event;
         self.line.clear();
         Ok(true)
     }
-}
-
-// Holds the label of the event.
-fn hold(held: &mut Labels, event: u64, text: String) -> Result<(), AllocError> {
-    held.insert(event, text)?;
-    Ok(())
 }

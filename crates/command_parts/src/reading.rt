@@ -15,7 +15,7 @@ pub(crate) fn part_fault(alloc: Global, words: &PartsWords<'_>, error: PartError
     match error {
         PartError::Read(error) => system_fault(alloc, "cannot read", input.name(), error),
         PartError::Refused(refusal) => refused(alloc, input, &refusal),
-        PartError::TooMany => too_many(alloc, input),
+        PartError::TooMany => too_many(alloc, input.name()),
         PartError::OutOfMemory => Fault::OutOfMemory,
     }
 }
@@ -45,25 +45,16 @@ fn refused(alloc: Global, input: Input<'_>, refusal: &Refusal) -> Fault {
 
 // The fault of a line that is longer than the text of a part may be.
 fn too_long(alloc: Global, name: &str, line: u64) -> Fault {
-    let text = format!(in alloc;
+    Fault::refused(format!(in alloc;
         "{name}:{line}: the line is too long: the text of a part has at most 67108864 bytes\n"
-    );
-    match text {
-        Ok(text) => Fault::Refused(text),
-        Err(_) => Fault::OutOfMemory,
-    }
+    ))
 }
 
 // The fault of events that have no number.
-fn too_many(alloc: Global, input: Input<'_>) -> Fault {
-    let name = input.name();
-    let line = format!(in alloc;
+fn too_many(alloc: Global, name: &str) -> Fault {
+    Fault::refused(format!(in alloc;
         "{name}: the trace is too long: it has more than 18446744073709551615 events\n"
-    );
-    match line {
-        Ok(line) => Fault::Refused(line),
-        Err(_) => Fault::OutOfMemory,
-    }
+    ))
 }
 
 // What is read for these words.

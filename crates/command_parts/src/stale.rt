@@ -1,7 +1,7 @@
 //! Files of an earlier run that are not written anew.
 
-use crate::files::{add_output, check_outputs, part_name};
-use command_inputs::{Fault, Opener, remove_all};
+use crate::files::{check_outputs, part_name};
+use command_inputs::{Fault, Opener, Output, remove_all};
 use command_requests::PartsWords;
 use std::alloc::Global;
 
@@ -27,11 +27,7 @@ pub(crate) fn remove_later<O: Opener>(
 
 // Whether there is a file with this name.
 fn is_there<O: Opener>(files: &O, name: &str) -> bool {
-    match files.size(name) {
-        Ok(Some(_)) => true,
-        Ok(None) => false,
-        Err(_) => false,
-    }
+    matches!(files.size(name), Ok(Some(_)))
 }
 
 // Removes the files of the part with this name and number, none of which is read.
@@ -91,7 +87,7 @@ fn remove_named<O: Opener>(
 ) -> Result<(), Fault> {
     let mut outputs = Vec::with_capacity(alloc, ends.len())?;
     for end in ends {
-        add_output(alloc, &mut outputs, name, *end, Vec::new(alloc))?;
+        outputs.push(Output::new(alloc, name, *end, Vec::new(alloc))?)?;
     }
     check_outputs(alloc, words, files, outputs.as_slice())?;
     remove_all(files, outputs.as_slice());

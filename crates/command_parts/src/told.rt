@@ -4,7 +4,6 @@ use crate::files::Turn;
 use command_requests::PartsWords;
 use pmt_asked::ByteRange;
 use pmt_parts::{Part, number_at, place_in};
-use pmt_text::write::push_number;
 use std::alloc::{AllocError, Global};
 
 /// The text beside the part, which sets these of its events aside.
@@ -44,21 +43,22 @@ pub(crate) fn part_text(
         text.extend_from_slice(line.as_bytes())?;
     }
     for own in 1..=carried {
-        push_pair(&mut text, b"carries", own, number_at(numbers, own))?;
+        push_pair(alloc, &mut text, "carries", own, number_at(numbers, own))?;
     }
     for own in aside {
-        push_pair(&mut text, b"aside", *own, number_at(numbers, *own))?;
+        push_pair(alloc, &mut text, "aside", *own, number_at(numbers, *own))?;
     }
     Ok(text)
 }
 
 // Adds the line of an event: this word, and its number in the part and in the whole.
-fn push_pair(text: &mut Vec<u8>, word: &[u8], own: u64, whole: u64) -> Result<(), AllocError> {
-    text.extend_from_slice(word)?;
-    text.push(b' ')?;
-    push_number(text, 10, own)?;
-    text.push(b' ')?;
-    push_number(text, 10, whole)?;
-    text.push(b'\n')?;
-    Ok(())
+fn push_pair(
+    alloc: Global,
+    text: &mut Vec<u8>,
+    word: &str,
+    own: u64,
+    whole: u64,
+) -> Result<(), AllocError> {
+    let line = format!(in alloc; "{word} {own} {whole}\n")?;
+    text.extend_from_slice(line.as_bytes())
 }

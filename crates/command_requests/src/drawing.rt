@@ -9,8 +9,6 @@ pub enum AskedEvents {
     Failure(u64),
     /// The events around this one.
     Around(u64),
-    /// The events from `first` to `last`.
-    Between { first: u64, last: u64 },
 }
 
 /// What `draw` is asked for.
@@ -18,10 +16,10 @@ pub enum AskedEvents {
 pub struct Drawing<'a> {
     /// Which events.
     pub events: AskedEvents,
-    /// Addresses whose lines are drawn; every line, if there are none.
-    pub lines: Vec<u64>,
     /// The file of the labels.
     pub labels: Option<&'a str>,
+    /// Whether no labels file beside the trace is taken.
+    pub no_labels: bool,
     /// The file that is written; none for standard output.
     pub out: Option<&'a str>,
     /// The file of the trace; none for standard input.

@@ -36,6 +36,10 @@ pub struct ExplainWords<'a> {
     pub failure: Option<u64>,
     /// The labels file.
     pub labels: Option<&'a str>,
+    /// Whether no labels file beside the trace is taken.
+    pub no_labels: bool,
+    /// Whether the status is 1 also for what may be meant.
+    pub is_strict: bool,
     /// What is written.
     pub form: Form,
     /// Whether the text for people has colors.

@@ -14,7 +14,7 @@ pub use crate::explaining::{Color, ExplainWords, Form, options_for};
 pub use crate::imaging::{AddressStores, AskedCrash, ImageWords, ListWords, PlaceRange, has_place};
 pub use crate::measuring::StatWords;
 pub use crate::parting::PartsWords;
-pub use crate::request::{CheckWords, FrontsWords, RecordWords, Request, TraceWords};
+pub use crate::request::{RecordWords, Request, Run, RunWords};
 pub use crate::slicing::{SliceSubject, SliceWords};
 
 /// The version of the program.

@@ -5,8 +5,8 @@
 pub struct StatWords<'a> {
     /// The labels file.
     pub labels: Option<&'a str>,
-    /// Whether a JSON object a line is written, and no text for people.
-    pub json: bool,
+    /// Whether no labels file beside the trace is taken.
+    pub no_labels: bool,
     /// The file that is written; none for standard output.
     pub out: Option<&'a str>,
     /// The trace; standard input, if none is given.

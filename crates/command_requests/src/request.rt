@@ -13,16 +13,10 @@ use std::alloc::{AllocError, Global};
 pub enum Request<'a> {
     /// This text: help, or the version.
     Show(String),
-    /// The report of a trace.
-    Check(CheckWords<'a>),
+    /// A run over a trace, whose answer is fixed.
+    Run(RunWords<'a>),
     /// What is wrong in a trace, why, and what to do.
     Explain(ExplainWords<'a>),
-    /// The trimmed trace.
-    Trim(TraceWords<'a>),
-    /// The trimmed trace, written while it is read.
-    Stream(TraceWords<'a>),
-    /// The fronts of a trace at a place.
-    Fronts(FrontsWords<'a>),
     /// The picture of a trace.
     Draw(Drawing<'a>),
     /// The pool's file as a crash leaves it.
@@ -39,39 +33,28 @@ pub enum Request<'a> {
     Record(RecordWords<'a>),
 }
 
-/// Which trace is read.
+/// A run over a trace, by its answer.
 #[derive(Clone, Copy)]
-pub struct TraceWords<'a> {
+pub enum Run {
+    /// The report.
+    Check,
+    /// The trimmed trace.
+    Trim,
+    /// The same, written while the trace is read.
+    Stream,
+    /// The fronts after so many events.
+    Fronts(u64),
+}
+
+/// Which run is made, over which trace.
+#[derive(Clone, Copy)]
+pub struct RunWords<'a> {
+    /// The run.
+    pub run: Run,
     /// How many threads there may be.
     pub workers: usize,
     /// The trace; standard input, if none is given.
     pub file: Option<&'a str>,
-    /// The file that is written; none for standard output.
-    pub out: Option<&'a str>,
-    /// Whether the reason stands below a fault's line.
-    pub verbose: bool,
-}
-
-/// Which trace is checked, and what is told of it.
-#[derive(Clone, Copy)]
-pub struct CheckWords<'a> {
-    /// The trace.
-    pub trace: TraceWords<'a>,
-    /// The labels file, whose texts stand after the entries.
-    pub labels: Option<&'a str>,
-    /// The most entries that are told; none for all of them.
-    pub limit: Option<u64>,
-    /// Whether nothing is written but a fault: the status tells.
-    pub quiet: bool,
-}
-
-/// Of which trace fronts are told.
-#[derive(Clone, Copy)]
-pub struct FrontsWords<'a> {
-    /// The trace; standard input, if none is given.
-    pub file: Option<&'a str>,
-    /// After how many events.
-    pub place: u64,
     /// The file that is written; none for standard output.
     pub out: Option<&'a str>,
     /// Whether the reason stands below a fault's line.
@@ -93,11 +76,8 @@ impl<'a> Request<'a> {
     /// The file that is to be written in place of standard output, of a command that does not write one by itself.
     pub fn out(&self) -> Option<&'a str> {
         match self {
-            Request::Check(words) => words.trace.out,
-            Request::Trim(words) => words.out,
-            Request::Fronts(words) => words.out,
+            Request::Run(words) => words.out,
             Request::Record(words) => words.out,
-            Request::Stat(words) => words.out,
             _ => None,
         }
     }
@@ -109,26 +89,52 @@ impl<'a> Request<'a> {
     pub fn inputs(&self, alloc: Global) -> Result<Vec<Option<&'a str>>, AllocError> {
         let mut names = Vec::new(alloc);
         match self {
-            Request::Check(words) => names.extend_from_slice(&[words.trace.file, words.labels])?,
-            Request::Trim(words) => names.push(words.file)?,
-            Request::Fronts(words) => names.push(words.file)?,
+            Request::Run(words) => names.push(words.file)?,
             Request::Record(words) => {
                 for script in &words.scripts {
                     names.push(Some(*script))?;
                 }
             }
-            Request::Stat(words) => names.extend_from_slice(&[words.file, words.labels])?,
             _ => {}
         }
         Ok(names)
     }
 
+    /// The trace beside which its labels are taken, if a file stands there: where none is named, and it is not to go without.
+    pub fn labels_beside(&self) -> Option<&'a str> {
+        let (labels, no_labels, file) = match self {
+            Request::Explain(words) => (words.labels, words.no_labels, words.file),
+            Request::Draw(drawing) => (drawing.labels, drawing.no_labels, drawing.file),
+            Request::Slice(words) if words.out.is_some() => (
+                words.labels,
+                words.no_labels,
+                words.file,
+            ),
+            Request::Stat(words) => (words.labels, words.no_labels, words.file),
+            _ => return None,
+        };
+        if labels.is_some() || no_labels {
+            None
+        } else {
+            file
+        }
+    }
+
+    /// Takes the labels of the file with this name.
+    pub fn take_labels(&mut self, name: &'a str) {
+        match self {
+            Request::Explain(words) => words.labels = Some(name),
+            Request::Draw(drawing) => drawing.labels = Some(name),
+            Request::Slice(words) => words.labels = Some(name),
+            Request::Stat(words) => words.labels = Some(name),
+            _ => {}
+        }
+    }
+
     /// Whether standard input is read for it.
     pub fn reads_input(&self) -> bool {
         match self {
-            Request::Check(words) => words.trace.file.is_none(),
-            Request::Trim(words) | Request::Stream(words) => words.file.is_none(),
-            Request::Fronts(words) => words.file.is_none(),
+            Request::Run(words) => words.file.is_none(),
             Request::Explain(words) => words.file.is_none(),
             Request::Draw(drawing) => drawing.file.is_none(),
             Request::Image(words) => words.file.is_none(),
@@ -143,9 +149,7 @@ impl<'a> Request<'a> {
     /// Whether the reason is to stand below the line of a fault that is fixed.
     pub fn is_verbose(&self) -> bool {
         match self {
-            Request::Check(words) => words.trace.verbose,
-            Request::Trim(words) | Request::Stream(words) => words.verbose,
-            Request::Fronts(words) => words.verbose,
+            Request::Run(words) => words.verbose,
             Request::Record(words) => words.verbose,
             _ => false,
         }

@@ -16,6 +16,8 @@ pub struct SliceWords<'a> {
     pub subject: SliceSubject,
     /// The labels file; it stands with `out`.
     pub labels: Option<&'a str>,
+    /// Whether no labels file beside the trace is taken.
+    pub no_labels: bool,
     /// The file that is written, with those beside it; none for standard output.
     pub out: Option<&'a str>,
     /// The trace; none for standard input.

@@ -1,16 +1,14 @@
 //! What is measured of a trace.
 
-use command_inputs::{
-    Fault, Input, Opener, Recalls, counted_reader, cut_of, labels_of, opened, untaken,
-};
+use command_inputs::{Fault, Input, Opener, cut_of, labels_of, trace_of};
 use command_requests::{StatWords, options_for};
 use pmt_asked::{Cut, Kind, Labels, frame_of};
 use pmt_causes::Origin;
 use pmt_explain_run::explain;
-use pmt_explanation::{Explanation, Summary, summary_of};
+use pmt_explanation::{Summary, summary_of};
 use pmt_fates::{Cost, Figures, PlaceCost, PlaceRow, cost_of, figures_of, sort_places};
 use pmt_model::OutOfMemory;
-use pmt_text::TextSource;
+use pmt_text::ListSource;
 use std::alloc::Global;
 use std::collections::BTreeMap;
 use std::io::Read;
@@ -40,50 +38,19 @@ pub(crate) fn measured_of<T: Threads + Sync, O: Opener, I: Read>(
     input: &mut I,
 ) -> Result<Measured, Fault> {
     let labels = labels_of(alloc, files, words.labels)?;
-    let explanation = match words.file {
-        Some(name) => {
-            let reader = opened(alloc, files, name)?;
-            explained(rt, alloc, &labels, words.file, reader)?
-        }
-        None => explained(rt, alloc, &labels, None, input)?,
-    };
-    let cut = cut_of(alloc, files, words.file)?;
-    Ok(measures_of(alloc, &explanation, &labels, cut)?)
-}
-
-// The explanation of the trace that the reader gives, of which nothing is asked but what each place has.
-fn explained<T: Threads + Sync, R: Read + Drop>(
-    rt: &T,
-    alloc: Global,
-    labels: &Labels,
-    file: Option<&str>,
-    reader: R,
-) -> Result<Explanation, Fault> {
+    let trace = trace_of(alloc, Input::new("stat", words.file), files, input)?;
+    // Nothing is asked of the explanation but what each place has.
     let options = options_for(alloc, Some(Kind::Unwritten));
-    let reader = counted_reader(alloc, reader, Recalls::LastLines)?;
-    let mut source = TextSource::new(alloc, reader);
-    match explain(rt, alloc, &mut source, labels, &options) {
-        Ok(explanation) => Ok(explanation),
-        Err(error) => Err(untaken(alloc, Input::new("stat", file), error, source)),
-    }
-}
-
-// What is measured of the explained trace.
-fn measures_of(
-    alloc: Global,
-    explanation: &Explanation,
-    labels: &Labels,
-    cut: Option<Cut>,
-) -> Result<Measured, OutOfMemory> {
-    let trace = explanation.analysis.trace();
-    let places = places_of(alloc, explanation.places.as_slice(), labels)?;
-    let figures = figures_of(alloc, trace)?;
+    let mut source = ListSource::new(&trace);
+    let Ok(explanation) = explain(rt, alloc, &mut source, &labels, &options) else {
+        return Err(Fault::OutOfMemory);
+    };
     Ok(Measured {
-        summary: summary_of(explanation),
+        summary: summary_of(&explanation),
         line_size: trace.format().line_size(),
-        figures,
-        places,
-        cut,
+        figures: figures_of(alloc, &trace)?,
+        places: places_of(alloc, explanation.places.as_slice(), &labels)?,
+        cut: cut_of(alloc, files, words.file)?,
     })
 }
 

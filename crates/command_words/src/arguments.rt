@@ -109,8 +109,8 @@ pub fn number_of(
     value_of(alloc, given, name, shown, NUMBER, number_in)
 }
 
-// The number that the word is.
-fn number_in(word: &str) -> Option<u64> {
+/// The number that the word is.
+pub fn number_in(word: &str) -> Option<u64> {
     read_number(10, word.as_bytes())
 }
 

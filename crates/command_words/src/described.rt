@@ -1,5 +1,5 @@
 //! Commands as tables say them, made by clap.
-use WordKind::{Flag, Lone, Value};
+use WordKind::{Flag, Lone, Rival, Value};
 use clap::{Arg, ArgAction, Command};
 use std::alloc::{AllocError, Global};
 
@@ -75,6 +75,19 @@ pub const LABELS: Word<'static> = Word(
     "Names of events: lines 'EVENT TEXT'",
 );
 
+/// The same of a command that takes the file beside the trace, and the word that it is not to.
+pub const LABELS_BESIDE: Word<'static> = Word(
+    "labels",
+    Value("FILE"),
+    "Names of events: lines 'EVENT TEXT'; without it TRACE.labels is read,{n}if it stands beside the trace",
+);
+
+pub const NO_LABELS: Word<'static> = Word(
+    "no-labels",
+    Rival("labels"),
+    "Read no labels that stand beside the trace",
+);
+
 /// A command, or that memory was refused when it was made.
 pub type Made<'a> = Result<Command<'a>, AllocError>;
 
@@ -132,7 +145,6 @@ fn with_letter<'a>(argument: Arg<'a>, name: &'a str) -> Arg<'a> {
 fn letter_of(name: &str) -> Option<char> {
     match name {
         "workers" => Some('j'),
-        "quiet" => Some('q'),
         "verbose" => Some('v'),
         "out" => Some('o'),
         _ => None,
@@ -142,7 +154,7 @@ fn letter_of(name: &str) -> Option<char> {
 // The argument as an option of this kind.
 fn option_of<'a>(argument: Arg<'a>, kind: WordKind<'a>) -> Result<Arg<'a>, AllocError> {
     match kind {
-        WordKind::Rival(other) => argument.action(ArgAction::SetTrue).conflicts_with(other),
+        Rival(other) => argument.action(ArgAction::SetTrue).conflicts_with(other),
         Value(shown) => Ok(argument.value_name(shown)),
         WordKind::Needed(shown) => Ok(argument.value_name(shown).required(true)),
         WordKind::Values(shown) => Ok(argument.value_name(shown).action(ArgAction::Append)),
@@ -150,7 +162,7 @@ fn option_of<'a>(argument: Arg<'a>, kind: WordKind<'a>) -> Result<Arg<'a>, Alloc
             argument
                 .value_name(shown)
                 .value_parser(values)
-                .default_value(first_of(values)),
+                .default_value(values.first().copied().unwrap_or("")),
         ),
         WordKind::AnyOf(shown, values) => Ok(
             argument
@@ -159,13 +171,5 @@ fn option_of<'a>(argument: Arg<'a>, kind: WordKind<'a>) -> Result<Arg<'a>, Alloc
                 .hide_possible_values(true),
         ),
         _ => Ok(argument.action(ArgAction::SetTrue)),
-    }
-}
-
-// The first of these values.
-fn first_of<'a>(values: &'a [&'a str]) -> &'a str {
-    match values.first() {
-        Some(value) => value,
-        None => "",
     }
 }

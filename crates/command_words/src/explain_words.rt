@@ -1,14 +1,14 @@
 //! The words of `explain`.
 
-use crate::arguments::{RANGE, event_of, out_name, trace_name, value_of, values_of};
+use crate::arguments::{
+    RANGE, bad_word, event_of, number_in, out_name, trace_name, value_of, values_of,
+};
 use crate::described::WordKind::{AnyOf, Flag, OneOf, Rival, Value, Values};
-use crate::described::{CommandText, OUT_FILE, TRACE_FILE, Word};
-use crate::explain_choice::{KINDS, choice_of};
+use crate::described::{CommandText, LABELS_BESIDE, NO_LABELS, OUT_FILE, TRACE_FILE, Word};
 use clap::ArgMatches;
 use command_inputs::{Fault, asked_place, range_in};
 use command_requests::{Color, ExplainWords, Form};
-use pmt_asked::{ByteRange, Choice, Ignored, IgnoredPlace, Options};
-use pmt_text::number::read_number;
+use pmt_asked::{ByteRange, Choice, Ignored, IgnoredPlace, Kind, Options};
 use std::alloc::Global;
 
 // The most entries of a kind where the words name no number.
@@ -27,16 +27,27 @@ const COLORS: &[&str] = &["auto", "always", "never"];
 const ONLY: &str =
     "Tell findings of this kind alone{n}[possible values: failure, never_persisted, dropped,{n}overwritten, unwritten, late, hint]";
 
+// The kinds that can be asked for.
+const KINDS: &[&str] = &[
+    "failure",
+    "never_persisted",
+    "dropped",
+    "overwritten",
+    "unwritten",
+    "late",
+    "hint",
+];
+
 // How `explain` is used.
 const USAGE: &str =
-    "pmtrim explain [--ignore A:N].. [--ignore-label LABEL].. [--ignore-file FILE].. [--limit N]\n                      [--only KIND] [--thread T] [--range A:N] [--from I] [--to J] [--label TEXT]\n                      [--failure N] [--labels FILE [--source DIR]] [--json | --html | --color WHEN]\n                      [--out FILE] [FILE]";
+    "pmtrim explain [--ignore A:N].. [--ignore-label LABEL].. [--ignore-file FILE].. [--limit N]\n                      [--only KIND] [--thread T] [--range A:N] [--from I] [--to J] [--label TEXT]\n                      [--failure N] [--strict] [--labels FILE | --no-labels] [--source DIR]\n                      [--json | --html | --color WHEN] [--out FILE] [FILE]";
 
 /// The command `explain`.
 pub static EXPLAIN: CommandText<'static> = CommandText {
     name: "explain",
     usage: USAGE,
     about: "Says what is wrong in a trace, why, and where to put the flush or fence.",
-    after: "Writes a summary, then each failed assertion with a crash that violates it, stores that are never{n}persisted, flushes and fences without effect, and overwritten stores: what matters most first, in at{n}most 40 lines unless --limit or --failure is given. --only to --failure choose what is told; the{n}status is of the whole trace.{n}Statuses: 0 done; 1 an assertion fails or a store that is not ignored is never persisted; 2 wrong{n}words; 3 trace, labels or ranges refused; 4 file fault; 5 out of memory{n}Example: pmtrim explain --labels run.trace.labels run.trace",
+    after: "Writes the verdict, FAIL, LOST, SUSPECT, CHECK, PROBABLY OK or OK; then, what weighs most first,{n}assertions that fail, each with a crash that violates it, stores that are lost or late, and hints;{n}what may be meant; and small things: one screen, unless --limit or --failure is given. --only to{n}--failure choose what is told; the verdict and the status are of the whole trace.{n}Statuses: 0 done; 1 FAIL, LOST or SUSPECT (if the trace was cut, LOST only by --strict); 2 wrong{n}words; 3 trace, labels or ranges refused; 4 file fault; 5 out of memory{n}Example: pmtrim explain run.trace",
     words: &[
         Word(
             "ignore",
@@ -46,7 +57,7 @@ pub static EXPLAIN: CommandText<'static> = CommandText {
         Word(
             "ignore-label",
             Values("LABEL"),
-            "Leave out what stores of this place lose, as 'stats.c:12 bump', what{n}labels say before ' < ', or a beginning and a star, as 'stats.c:*';{n}wants --labels; may be given more than once",
+            "Leave out what stores of this place lose, as 'stats.c:12 bump', what{n}labels say before ' < ', or a beginning and a star, as 'stats.c:*';{n}wants labels; may be given more than once",
         ),
         Word(
             "ignore-file",
@@ -70,7 +81,7 @@ pub static EXPLAIN: CommandText<'static> = CommandText {
         Word(
             "label",
             Value("TEXT"),
-            "Tell of events alone whose label has TEXT in it; wants --labels",
+            "Tell of events alone whose label has TEXT in it; wants labels",
         ),
         Word(
             "failure",
@@ -78,10 +89,12 @@ pub static EXPLAIN: CommandText<'static> = CommandText {
             "Tell of the failed assertion of event N alone",
         ),
         Word(
-            "labels",
-            Value("FILE"),
-            "What to call the events: lines EVENT TEXT by rising event number",
+            "strict",
+            Flag,
+            "Give status 1 for CHECK and PROBABLY OK too",
         ),
+        LABELS_BESIDE,
+        NO_LABELS,
         Word("json", Flag, "Write a JSON object a line"),
         Word(
             "html",
@@ -91,7 +104,7 @@ pub static EXPLAIN: CommandText<'static> = CommandText {
         Word(
             "source",
             Value("DIR"),
-            "Put the source lines that labels name into the text or page, from{n}files below this folder; wants --labels, and no --json",
+            "Put the source lines that labels name into the text or page, from{n}files below this folder; wants labels, and no --json",
         ),
         Word("color", OneOf("WHEN", COLORS), "Color the text"),
         OUT_FILE,
@@ -105,12 +118,24 @@ pub static EXPLAIN: CommandText<'static> = CommandText {
 /// A usage fault that names the wrong word and says what is allowed; `OutOfMemory`.
 pub fn explain_words<'a>(alloc: Global, given: &ArgMatches<'a>) -> Result<ExplainWords<'a>, Fault> {
     let choice = choice_of(alloc, given)?;
+    let ignored = Ignored {
+        ranges: ignored_of(alloc, given)?,
+        places: places_of(alloc, given)?,
+    };
+    let mut ignore_files = Vec::new(alloc);
+    ignore_files.extend_from_slice(given.get_strs("ignore-file").unwrap_or(&[]))?;
     Ok(ExplainWords {
-        options: options_of(alloc, given, choice)?,
-        ignore_files: files_of(alloc, given)?,
+        options: Options {
+            ignored,
+            limit: asked_limit(alloc, given, FEW)?,
+            choice,
+        },
+        ignore_files,
         is_limited: given.get_str("limit").is_some(),
         failure: event_of(alloc, given, "failure", "--failure <N>")?,
         labels: given.get_str("labels"),
+        no_labels: given.get_flag("no-labels"),
+        is_strict: given.get_flag("strict"),
         form: form_of(given),
         color: color_of(given),
         out: out_name(given),
@@ -140,7 +165,7 @@ fn color_of(given: &ArgMatches<'_>) -> Color {
     }
 }
 
-// The folder of the source files: labels say which lines of them are shown, and JSON has none.
+// The folder of the source files: JSON has none of their lines.
 fn source_of<'a>(alloc: Global, given: &ArgMatches<'a>) -> Result<Option<&'a str>, Fault> {
     let Some(folder) = given.get_str("source") else {
         return Ok(None);
@@ -150,30 +175,7 @@ fn source_of<'a>(alloc: Global, given: &ArgMatches<'a>) -> Result<Option<&'a str
             "'--source' puts source lines into the text or the page, and '--json' has none";
         return Err(Fault::usage(alloc, message));
     }
-    if given.get_str("labels").is_none() {
-        let message = "'--source' wants '--labels', the file that names the source lines of events";
-        return Err(Fault::usage(alloc, message));
-    }
     Ok(Some(folder))
-}
-
-// The files that tell what to ignore.
-fn files_of<'a>(alloc: Global, given: &ArgMatches<'a>) -> Result<Vec<&'a str>, Fault> {
-    let mut files = Vec::new(alloc);
-    files.extend_from_slice(given.get_strs("ignore-file").unwrap_or(&[]))?;
-    Ok(files)
-}
-
-fn options_of(alloc: Global, given: &ArgMatches<'_>, choice: Choice) -> Result<Options, Fault> {
-    let ignored = Ignored {
-        ranges: ignored_of(alloc, given)?,
-        places: places_of(alloc, given)?,
-    };
-    Ok(Options {
-        ignored,
-        limit: asked_limit(alloc, given, FEW)?,
-        choice,
-    })
 }
 
 /// The ranges that `--ignore` names.
@@ -184,13 +186,9 @@ pub fn ignored_of(alloc: Global, given: &ArgMatches<'_>) -> Result<Vec<ByteRange
     values_of(alloc, given, "ignore", "--ignore <A:N>", RANGE, range_in)
 }
 
-// The places whose stores are ignored: labels say which events are of them.
+// The places whose stores are ignored.
 fn places_of(alloc: Global, given: &ArgMatches<'_>) -> Result<Vec<IgnoredPlace>, Fault> {
     let words = given.get_strs("ignore-label").unwrap_or(&[]);
-    if !words.is_empty() && given.get_str("labels").is_none() {
-        let message = "'--ignore-label' wants '--labels', the file that names the events";
-        return Err(Fault::usage(alloc, message));
-    }
     let mut places = Vec::new(alloc);
     for text in words {
         places.push(asked_place(alloc, "--ignore-label <LABEL>", text)?)?;
@@ -209,6 +207,76 @@ fn asked_limit(alloc: Global, given: &ArgMatches<'_>, other: usize) -> Result<us
 fn limit_in(word: &str) -> Option<usize> {
     match word {
         "all" => Some(ALL),
-        _ => Some(read_number(10, word.as_bytes())? as usize),
+        _ => Some(number_in(word)? as usize),
+    }
+}
+
+// Which findings these words ask for; one failed assertion is all between `from` and `to`.
+fn choice_of(alloc: Global, given: &ArgMatches<'_>) -> Result<Choice, Fault> {
+    let only = kind_of(given.get_str("only"));
+    let from = event_of(alloc, given, "from", "--from <I>")?;
+    let to = event_of(alloc, given, "to", "--to <J>")?;
+    let failure = event_of(alloc, given, "failure", "--failure <N>")?;
+    if let Some(message) = clash(given, from, to) {
+        return Err(Fault::usage(alloc, message));
+    }
+    Ok(Choice {
+        only: match failure {
+            Some(_) => Some(Kind::Failure),
+            None => only,
+        },
+        thread: value_of(alloc, given, "thread", "--thread <T>", THREAD, thread_in)?,
+        range: value_of(alloc, given, "range", "--range <A:N>", RANGE, range_in)?,
+        from: failure.or(from),
+        to: failure.or(to),
+        label: label_of(alloc, given)?,
+    })
+}
+
+// Which words don't go together, if some don't.
+fn clash(given: &ArgMatches<'_>, from: Option<u64>, to: Option<u64>) -> Option<&'static str> {
+    let is_choosing = given.get_str("only").is_some() || from.is_some() || to.is_some();
+    if given.get_str("failure").is_some() && is_choosing {
+        return Some("'--failure' stands without '--only', '--from' and '--to'");
+    }
+    if from.unwrap_or(0) > to.unwrap_or(u64::MAX) {
+        return Some("the event of '--to' comes before that of '--from'");
+    }
+    None
+}
+
+// The kind that this word names: the command takes no other.
+fn kind_of(word: Option<&str>) -> Option<Kind> {
+    match word? {
+        "failure" => Some(Kind::Failure),
+        "never_persisted" => Some(Kind::NeverPersisted),
+        "dropped" => Some(Kind::Dropped),
+        "overwritten" => Some(Kind::Overwritten),
+        "unwritten" => Some(Kind::Unwritten),
+        "late" => Some(Kind::Late),
+        "hint" => Some(Kind::Hint),
+        _ => None,
+    }
+}
+
+const THREAD: &str = "a thread, from 0 to 255, without leading zeros";
+
+// The thread that this word names.
+fn thread_in(word: &str) -> Option<u8> {
+    match number_in(word) {
+        Some(thread) if thread < 256 => Some(thread as u8),
+        _ => None,
+    }
+}
+
+// The text that labels are to have.
+fn label_of(alloc: Global, given: &ArgMatches<'_>) -> Result<Option<String>, Fault> {
+    match given.get_str("label") {
+        Some("") => {
+            let allowed = "a text that stands in labels";
+            Err(bad_word(alloc, "", "--label <TEXT>", allowed))
+        }
+        Some(text) => Ok(Some(String::from_str(alloc, text)?)),
+        None => Ok(None),
     }
 }

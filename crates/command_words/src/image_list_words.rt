@@ -1,9 +1,8 @@
 //! The words of `image --list`.
-use crate::arguments::{bad_word, number_of, out_name, trace_name};
+use crate::arguments::{bad_word, number_in, number_of, out_name, trace_name};
 use clap::ArgMatches;
 use command_inputs::Fault;
 use command_requests::{ListWords, PlaceRange};
-use pmt_text::number::read_number;
 use std::alloc::{AllocError, Global};
 
 /// What these words ask for.
@@ -39,7 +38,7 @@ fn places_of(alloc: Global, given: &ArgMatches<'_>) -> Result<Vec<PlaceRange>, F
     let Some(word) = given.get_str("at") else {
         return Ok(Vec::new(alloc));
     };
-    match read_places(alloc, word.as_bytes())? {
+    match read_places(alloc, word)? {
         Some(places) => Ok(places),
         None => {
             let allowed = "places and ranges of them, as 12,40-60, decimal without leading zeros";
@@ -49,44 +48,25 @@ fn places_of(alloc: Global, given: &ArgMatches<'_>) -> Result<Vec<PlaceRange>, F
 }
 
 // The places that the word names.
-fn read_places(alloc: Global, word: &[u8]) -> Result<Option<Vec<PlaceRange>>, AllocError> {
+fn read_places(alloc: Global, word: &str) -> Result<Option<Vec<PlaceRange>>, AllocError> {
     let mut places = Vec::new(alloc);
-    let mut rest = Some(word);
-    for _ in 0..=word.len() {
-        let Some(text) = rest else {
-            break;
-        };
-        let (piece, later) = first_piece(text);
+    for piece in word.split(',') {
         match read_range(piece) {
             Some(range) => places.push(range)?,
             None => return Ok(None),
         }
-        rest = later;
     }
     Ok(Some(places))
 }
 
-// What stands before the first comma, and after it.
-fn first_piece(text: &[u8]) -> (&[u8], Option<&[u8]>) {
-    match text.iter().position(|byte| *byte == b',') {
-        Some(comma) => (&text[..comma], Some(&text[comma + 1..])),
-        None => (text, None),
-    }
-}
-
 // The range that `N` or `N-M` names.
-fn read_range(piece: &[u8]) -> Option<PlaceRange> {
-    let Some(dash) = piece.iter().position(|byte| *byte == b'-') else {
-        let place = read_number(10, piece)?;
-        return Some(PlaceRange {
-            first: place,
-            last: place,
-        });
-    };
-    let first = read_number(10, &piece[..dash])?;
-    let last = read_number(10, &piece[dash + 1..])?;
-    if first > last {
-        return None;
+fn read_range(piece: &str) -> Option<PlaceRange> {
+    let (first, last) = piece.split_once('-').unwrap_or((piece, piece));
+    let first = number_in(first)?;
+    let last = number_in(last)?;
+    if first <= last {
+        Some(PlaceRange { first, last })
+    } else {
+        None
     }
-    Some(PlaceRange { first, last })
 }

@@ -5,7 +5,6 @@ mod arguments;
 mod command;
 mod described;
 mod draw_words;
-mod explain_choice;
 mod explain_words;
 mod image_list_words;
 mod image_words;

@@ -1,5 +1,5 @@
 //! The words of `check`, `trim`, `fronts` and `record`.
-use crate::described::WordKind::{Flag, ManyLone, NeededLone, OneOf, Value};
+use crate::described::WordKind::{Flag, ManyLone, NeededLone, OneOf};
 use crate::described::{CommandText, OUT_FILE, TRACE_FILE, VERBOSE, Word};
 
 // How many threads there may be.
@@ -8,7 +8,7 @@ const WORKERS: &[&str] = &["1", "2", "4", "8", "16"];
 /// The command `check`.
 pub static CHECK: CommandText<'static> = CommandText {
     name: "check",
-    usage: "pmtrim check [--workers N] [--labels FILE] [--limit N] [--quiet] [--out FILE] [FILE]",
+    usage: "pmtrim check [--workers N] [--out FILE] [FILE]",
     about: "Judges the assertions of a trace, and reports findings.",
     after: "Writes the number of events and lines, an entry for each finding and each assertion, and how many{n}events trim keeps.{n}Statuses: 0 done; 1 an assertion fails or a store is never persisted; 2 wrong words; 3 trace{n}refused; 4 file fault; 5 out of memory{n}Example: pmtrim check --workers 4 run.trace",
     words: &[
@@ -17,17 +17,6 @@ pub static CHECK: CommandText<'static> = CommandText {
             OneOf("N", WORKERS),
             "Accepted, and changes nothing: check{n}is one pass in one thread",
         ),
-        Word(
-            "labels",
-            Value("FILE"),
-            "Say behind each entry what its events are called: lines EVENT TEXT",
-        ),
-        Word(
-            "limit",
-            Value("N"),
-            "Write at most N entries, or 'all', and how many are left out",
-        ),
-        Word("quiet", Flag, "Write nothing: the status tells"),
         OUT_FILE,
         VERBOSE,
         TRACE_FILE,

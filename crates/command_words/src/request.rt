@@ -10,7 +10,7 @@ use crate::stat_words::stat_words;
 use clap::error::ErrorKind;
 use clap::{ArgMatches, Error};
 use command_inputs::Fault;
-use command_requests::{CheckWords, FrontsWords, RecordWords, Request, TraceWords};
+use command_requests::{RecordWords, Request, Run, RunWords};
 use pmt_text::number::read_number;
 use std::alloc::Global;
 use std::convert::AsStr;
@@ -45,7 +45,7 @@ fn shown<'a>(alloc: Global, error: &Error) -> Result<Request<'a>, Fault> {
 
 fn asked<'a>(alloc: Global, matches: &ArgMatches<'a>) -> Result<Request<'a>, Fault> {
     match matches.subcommand() {
-        Some(("check", given)) => Ok(Request::Check(check_words(alloc, given)?)),
+        Some(("check", given)) => Ok(run_of(given, Run::Check)),
         Some(("explain", given)) => Ok(Request::Explain(explain_words(alloc, given)?)),
         Some(("fronts", given)) => fronts(alloc, given),
         Some(("record", given)) => record(alloc, given),
@@ -55,74 +55,37 @@ fn asked<'a>(alloc: Global, matches: &ArgMatches<'a>) -> Result<Request<'a>, Fau
         Some(("parts", given)) => Ok(Request::Parts(parts_words(alloc, given)?)),
         Some(("draw", given)) => Ok(Request::Draw(drawing_of(alloc, given)?)),
         Some((_, given)) => trim(alloc, given),
-        None => Ok(Request::Trim(TraceWords {
-            workers: 1,
-            file: None,
-            out: None,
-            verbose: false,
-        })),
+        None => Ok(run_of(matches, Run::Trim)),
     }
 }
 
-fn trace_words<'a>(given: &ArgMatches<'a>) -> TraceWords<'a> {
-    TraceWords {
-        workers: workers_of(given),
+// The run over the trace that the words name.
+fn run_of<'a>(given: &ArgMatches<'a>, run: Run) -> Request<'a> {
+    Request::Run(RunWords {
+        run,
+        workers: given.get_one::<usize>("workers").unwrap_or(1),
         file: trace_name(given),
         out: out_name(given),
         verbose: given.get_flag("verbose"),
-    }
-}
-
-fn check_words<'a>(alloc: Global, given: &ArgMatches<'a>) -> Result<CheckWords<'a>, Fault> {
-    Ok(CheckWords {
-        trace: trace_words(given),
-        labels: given.get_str("labels"),
-        limit: value_of(alloc, given, "limit", "--limit <N>", LIMIT, limit_in)?.unwrap_or(None),
-        quiet: given.get_flag("quiet"),
     })
 }
 
-const LIMIT: &str = "a decimal number without leading zeros, or 'all'";
-
-// The limit that the word names: a number, or none for all.
-fn limit_in(word: &str) -> Option<Option<u64>> {
-    match word {
-        "all" => Some(None),
-        _ => Some(Some(read_number(10, word.as_bytes())?)),
-    }
-}
-
 fn trim<'a>(alloc: Global, given: &ArgMatches<'a>) -> Result<Request<'a>, Fault> {
-    let words = trace_words(given);
     if !given.get_flag("stream") {
-        return Ok(Request::Trim(words));
+        return Ok(run_of(given, Run::Trim));
     }
-    if words.out.is_some() {
+    if out_name(given).is_some() {
         let message =
             "'--stream' writes to standard output while it reads; a file of '--out' is written whole";
         return Err(Fault::usage(alloc, message));
     }
-    Ok(Request::Stream(words))
-}
-
-// The number that the word is: 1, 2, 4, 8 or 16, since the command takes no other.
-fn workers_of(given: &ArgMatches<'_>) -> usize {
-    let word = given.get_str("workers").unwrap_or("1");
-    match read_number(10, word.as_bytes()) {
-        Some(workers) => workers as usize,
-        None => 1,
-    }
+    Ok(run_of(given, Run::Stream))
 }
 
 fn fronts<'a>(alloc: Global, given: &ArgMatches<'a>) -> Result<Request<'a>, Fault> {
     let allowed = "a decimal number without leading zeros, at most 18446744073709551615";
     let place = value_of(alloc, given, "PLACE", "<PLACE>", allowed, place_of)?;
-    Ok(Request::Fronts(FrontsWords {
-        file: trace_name(given),
-        place: place.unwrap_or(0),
-        out: out_name(given),
-        verbose: given.get_flag("verbose"),
-    }))
+    Ok(run_of(given, Run::Fronts(place.unwrap_or(0))))
 }
 
 // The number, where the text is decimal without leading zeros and it is below 2^64.

@@ -8,8 +8,6 @@ mod book;
 #[cfg(test)]
 mod marks;
 #[cfg(test)]
-mod model;
-#[cfg(test)]
 mod recorder;
 #[cfg(test)]
 mod report;

@@ -23,21 +23,13 @@ fn has_failed(rt: &impl Abort, fault: Option<RunError>, out: Counted<LimitedWrit
 }
 
 #[test]
-fn failing_flush_of_check(rt: HostRuntime) {
+fn failing_flush(rt: HostRuntime) {
     let mut out = failing_writer(rt.alloc());
     let (_reader, answer) = run_check(&rt, rt.alloc(), 1, Counted::new(TRACE), &mut out);
     has_failed(&rt, answer.err(), out, 34);
-}
-
-#[test]
-fn failing_flush_of_trim(rt: HostRuntime) {
     let mut out = failing_writer(rt.alloc());
     let (_reader, answer) = run_trim(&rt, rt.alloc(), 1, Counted::new(TRACE), &mut out);
     has_failed(&rt, answer.err(), out, 51);
-}
-
-#[test]
-fn failing_flush_of_fronts(rt: HostRuntime) {
     let mut out = failing_writer(rt.alloc());
     let (_reader, answer) = run_fronts(rt.alloc(), 3, Counted::new(TRACE), &mut out);
     has_failed(&rt, answer.err(), out, 44);

@@ -27,10 +27,8 @@ use Rattle.pmt_causes.specs.declared.grouping.Keyed.{Keyed}
 use Rattle.pmt_causes.specs.declared.failure_keys.AssertionKind.{AssertionKind}
 use Rattle.pmt_causes.specs.declared.failure_keys.AssertionKind.TheVariants.{Persist, Ordered}
 use Rattle.pmt_causes.specs.declared.failure_keys.FailureKey.{FailureKey}
-use Rattle.pmt_causes.specs.declared.failing.Loss.{Loss}
-use Rattle.pmt_causes.specs.FailureKeys.{kind_of, cause_by, IsAssertion, OfPersist, OfOrdered, Fails, IsKeyed, AreKeyed}
+use Rattle.pmt_causes.specs.FailureKeys.{kind_of, cause_by, IsAssertion, IsFailureKey, OfPersist, OfOrdered, Fails, IsKeyed, AreKeyed, key_by, with_keyed}
 use Rattle.pmt_dropping.specs.Upcoming.{AreNextFlushes, ByStore}
-use Rattle.pmt_causes.specs.Losing.{IsLoss, loss_by, with_keyed}
 use Rattle.pmt_dropping.proofs.UpcomingLemmas.{next-on}
 use Rattle.pmt_causes.proofs.FlushingLemmas.{cause-kind}
 
@@ -84,36 +82,33 @@ lost-cause T n x full flushes within are lost =
 
 key-from : (T : Recording) (labels : List (Option ℕ)) (flushes : List ℕ) (i n : ℕ) (full : Option ℕ) (e : Event) (kind : AssertionKind) (A : Span) (f : Failure) → event T i ≡ Some e →
     IsAssertion e.op kind A → IsFailureOf T i e.op (Some f) → f.place ≡ n → n ≤ length T.events → AreNextFlushes T flushes → IsLost T n full f.lost.store →
-    IsLoss T labels i (loss_by labels flushes i e.thread kind f)
+    IsFailureKey T labels i (key_by labels flushes i e.thread kind f)
 key-from T labels flushes i n full e kind A f is assertion fails place within are lost =
     let at : HasCause T f.place f.lost.store (get_or flushes (f.lost.store - 1) 0) =
     subst (λ m. HasCause T m f.lost.store (get_or flushes (f.lost.store - 1) 0)) (sym place) (lost-cause T n f.lost.store full flushes within are lost) in
     record {
-      is_key = record {
-        failure = f;
-        fails = at-event T i e (Some f) is fails;
-        assertion = e;
-        is = is;
-        range = A;
-        kind = assertion;
-        why = at.why;
-        is_cause = at.is_cause;
-        cause = at.kind;
-        origin = refl;
-      };
-      store = refl;
+      failure = f;
+      fails = at-event T i e (Some f) is fails;
+      assertion = e;
+      is = is;
+      range = A;
+      kind = assertion;
+      why = at.why;
+      is_cause = at.is_cause;
+      cause = at.kind;
+      origin = refl;
     }
 
 -- of an isPersist
 pub persist-key : (T : Recording) (labels : List (Option ℕ)) (flushes : List ℕ) (i : ℕ) (e : Event) (A : Span) (f : Failure) → event T i ≡ Some e → e.op ≡ IsPersist A → i ≤ length T.events →
-    AreNextFlushes T flushes → IsPersistFailure T i A f → IsLoss T labels i (loss_by labels flushes i e.thread Persist f)
+    AreNextFlushes T flushes → IsPersistFailure T i A f → IsFailureKey T labels i (key_by labels flushes i e.thread Persist f)
 persist-key T labels flushes i e A f is op within are failure =
     key-from T labels flushes i i None e Persist A f is (subst (λ o. IsAssertion o Persist A) (sym op) (OfPersist A)) (subst (λ o. IsFailureOf T i o (Some f)) (sym op) failure) failure.place within are
     failure.lost.is_lost
 
 -- of an isOrderedBefore
 pub ordered-key : (T : Recording) (labels : List (Option ℕ)) (flushes : List ℕ) (i : ℕ) (e : Event) (A B : Span) (f : Failure) → event T i ≡ Some e → e.op ≡ IsOrderedBefore A B →
-    AreNextFlushes T flushes → IsOrderedFailure T i A B f → IsLoss T labels i (loss_by labels flushes i e.thread Ordered f)
+    AreNextFlushes T flushes → IsOrderedFailure T i A B f → IsFailureKey T labels i (key_by labels flushes i e.thread Ordered f)
 ordered-key T labels flushes i e A B f is op are failure =
     let within = (act-within T failure.kept.store (Stores failure.line failure.what) failure.is_store).1 in
     key-from T labels flushes i failure.kept.store (Some failure.line) e Ordered A f is (subst (λ o. IsAssertion o Ordered A) (sym op) (OfOrdered A B))
@@ -122,13 +117,13 @@ ordered-key T labels flushes i e A B f is op are failure =
 -- the key of what is found of an assertion
 pub persist-keyed : (T : Recording) (labels : List (Option ℕ)) (flushes : List ℕ) (i : ℕ) (e : Event) (A : Span) (o : Option Failure) → event T i ≡ Some e → e.op ≡ IsPersist A → i ≤ length T.events →
     AreNextFlushes T flushes → MatchOption o (PersistPasses (history T i) A) (IsPersistFailure T i A) →
-    MatchOption (option_map (loss_by labels flushes i e.thread Persist) o) (IsFailureAt T i None) (IsLoss T labels i)
+    MatchOption (option_map (key_by labels flushes i e.thread Persist) o) (IsFailureAt T i None) (IsFailureKey T labels i)
 persist-keyed T labels flushes i e A None is op within are passes = at-event T i e None is (subst (λ o. IsFailureOf T i o None) (sym op) passes)
 persist-keyed T labels flushes i e A (Some f) is op within are failure = persist-key T labels flushes i e A f is op within are failure
 
 pub ordered-keyed : (T : Recording) (labels : List (Option ℕ)) (flushes : List ℕ) (i : ℕ) (e : Event) (A B : Span) (o : Option Failure) → event T i ≡ Some e → e.op ≡ IsOrderedBefore A B →
     AreNextFlushes T flushes → MatchOption o (OrderedPasses (history T i) A B) (IsOrderedFailure T i A B) →
-    MatchOption (option_map (loss_by labels flushes i e.thread Ordered) o) (IsFailureAt T i None) (IsLoss T labels i)
+    MatchOption (option_map (key_by labels flushes i e.thread Ordered) o) (IsFailureAt T i None) (IsFailureKey T labels i)
 ordered-keyed T labels flushes i e A B None is op are passes = at-event T i e None is (subst (λ o. IsFailureOf T i o None) (sym op) passes)
 ordered-keyed T labels flushes i e A B (Some f) is op are failure = ordered-key T labels flushes i e A B f is op are failure
 
@@ -140,12 +135,12 @@ number_of x = x.number
 pub keyed-none : (T : Recording) (labels : List (Option ℕ)) → AreKeyed T labels [] []
 keyed-none T labels = record { each = λ p d within. absurd (omega arith); picked = refl }
 
-pub keyed-more : (T : Recording) (labels : List (Option ℕ)) (numbers : List ℕ) (items : List (Keyed FailureKey)) (n : ℕ) (o : Option Loss) → AreKeyed T labels numbers items →
-    MatchOption o (IsFailureAt T n None) (IsLoss T labels n) → AreKeyed T labels (numbers ++ n ∷ []) (with_keyed n o items)
+pub keyed-more : (T : Recording) (labels : List (Option ℕ)) (numbers : List ℕ) (items : List (Keyed FailureKey)) (n : ℕ) (o : Option FailureKey) → AreKeyed T labels numbers items →
+    MatchOption o (IsFailureAt T n None) (IsFailureKey T labels n) → AreKeyed T labels (numbers ++ n ∷ []) (with_keyed n o items)
 keyed-more T labels numbers items n None before passes = record { each = before.each; picked = picks-other (Fails T) numbers (map number_of items) n before.picked (λ fails. fails passes) }
-keyed-more T labels numbers items n (Some l) before it = record {
-  each = All-push (IsKeyed T labels) items (record { key = l.key; number = n }) before.each it.is_key;
+keyed-more T labels numbers items n (Some k) before it = record {
+  each = All-push (IsKeyed T labels) items (record { key = k; number = n }) before.each it;
   picked =
-      subst (Picks (Fails T) (numbers ++ n ∷ [])) (sym (map-append number_of items (record { key = l.key; number = n } ∷ [])))
-      (picks-more (Fails T) numbers (map number_of items) n before.picked (failure-fails T n it.is_key.failure it.is_key.fails));
+      subst (Picks (Fails T) (numbers ++ n ∷ [])) (sym (map-append number_of items (record { key = k; number = n } ∷ [])))
+      (picks-more (Fails T) numbers (map number_of items) n before.picked (failure-fails T n it.failure it.fails));
 }

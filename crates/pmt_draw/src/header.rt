@@ -1,10 +1,11 @@
 //! The columns: each event's words, and its mark in the row of its thread.
-use crate::labels::{Label, label_of, push_cut, room_of};
+use crate::labels::{push_cut, room_of};
 use crate::layout::Layout;
 use crate::marks::push_mark;
 use crate::missing::missing_letters;
 use crate::page::Page;
 use crate::words::{push_event_words, push_reason};
+use pmt_asked::Labels;
 use pmt_pen::Pen;
 use pmt_picture::{Column, Picture, line_of_op};
 use pmt_text::{line_address, word_of};
@@ -19,7 +20,7 @@ const APART: u64 = 14;
 const LETTER: u64 = 67;
 
 /// The height of the words of the columns.
-pub fn words_height(picture: &Picture, layout: &Layout, labels: &[Label]) -> u64 {
+pub fn words_height(picture: &Picture, layout: &Layout, labels: &Labels) -> u64 {
     if layout.is_flat() {
         return 54;
     }
@@ -34,11 +35,11 @@ pub fn words_height(picture: &Picture, layout: &Layout, labels: &[Label]) -> u64
 }
 
 // How many letters stand upright over the column.
-fn letters_of(column: &Column, labels: &[Label]) -> u64 {
+fn letters_of(column: &Column, labels: &Labels) -> u64 {
     let word = word_of(&column.event.op).len() as u64;
     let digits = column.number.checked_ilog10().unwrap_or(0) as u64;
-    let label = match label_of(labels, column.number) {
-        Some(label) => room_of(label, label.len())
+    let label = match labels.get(column.number) {
+        Some(label) => room_of(label.as_str(), label.len())
             .min(LABEL_LETTERS)
             .saturating_add(1),
         None => 0,
@@ -50,7 +51,7 @@ fn letters_of(column: &Column, labels: &[Label]) -> u64 {
 
 /// Adds the columns, from left to right, and the dots where events are left out.
 pub fn push_columns(pen: &mut Pen, page: Page<'_>) {
-    for slot in &page.band.slots {
+    for slot in &page.layout.slots {
         if let Some(x) = slot.gap {
             push_gap(pen, page, x);
         }
@@ -58,7 +59,7 @@ pub fn push_columns(pen: &mut Pen, page: Page<'_>) {
             push_column(pen, page, column);
         }
     }
-    if let Some(x) = page.band.gap {
+    if let Some(x) = page.layout.gap {
         push_gap(pen, page, x);
     }
 }
@@ -75,7 +76,7 @@ fn push_gap(pen: &mut Pen, page: Page<'_>, x: u64) {
 // Adds an event: its words over the column, and its mark in its thread's row.
 fn push_column(pen: &mut Pen, page: Page<'_>, column: &Column) {
     let thread = column.event.thread;
-    let x = page.band.middle(column.number);
+    let x = page.layout.middle(column.number);
     pen.fill(
         "<g class='event' data-event='#' data-thread='#' data-x='#'",
         &[column.number, thread as u64, x],
@@ -91,7 +92,7 @@ fn push_column(pen: &mut Pen, page: Page<'_>, column: &Column) {
     push_judgement(pen, column);
     pen.put("</title>");
     push_words(pen, page, column, x);
-    let y = page.band.thread_middle(thread, page.threads);
+    let y = page.layout.thread_middle(thread, page.threads);
     push_mark(pen, column, x, y);
     pen.put("</g>\n");
 }
@@ -111,7 +112,10 @@ fn push_judgement(pen: &mut Pen, column: &Column) {
 
 // Adds the number, the word and the label over the column.
 fn push_words(pen: &mut Pen, page: Page<'_>, column: &Column, x: u64) {
-    let label = label_of(page.labels, column.number).unwrap_or("");
+    let label = match page.labels.get(column.number) {
+        Some(label) => label.as_str(),
+        None => "",
+    };
     if page.layout.is_flat() {
         push_flat(pen, page, column, label, x);
     } else {

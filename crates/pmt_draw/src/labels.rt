@@ -1,24 +1,7 @@
-//! What the program calls its events.
+//! What the program calls its events, cut where it has no room.
 use crate::words::push_letter;
 use pmt_pen::Pen;
 use unicode_width::UnicodeWidthChar;
-
-/// What the program calls an event, as the place in its source.
-#[derive(Drop)]
-pub struct Label {
-    /// The event's number, from 1.
-    pub event: u64,
-    /// Its text.
-    pub text: String,
-}
-
-/// The text of the event's label, if it has one. The labels go by rising event number.
-pub fn label_of(labels: &[Label], number: u64) -> Option<&str> {
-    match labels.binary_search_by_key(&number, |label| label.event) {
-        Ok(index) => labels.get(index).map(|label| label.text.as_str()),
-        Err(_) => None,
-    }
-}
 
 // How many letters' room the letter takes.
 fn letter_room(letter: char) -> u64 {

@@ -3,7 +3,6 @@
 //! Where things stand on the page is tested.
 #![tactic(auto)]
 
-mod band;
 mod head;
 mod header;
 mod labels;
@@ -21,5 +20,4 @@ mod threads;
 mod veil;
 mod words;
 
-pub use crate::labels::Label;
 pub use crate::svg::svg_text;

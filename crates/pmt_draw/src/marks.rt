@@ -39,9 +39,9 @@ pub fn push_mark(pen: &mut Pen, column: &Column, x: u64, y: u64) {
     let worth = worth_of(column);
     match column.event.op {
         Op::Store(_) => push_box(pen, "dot", x, y, 4, 4),
-        Op::Clwb(_) | Op::ClflushOpt(_) => push_triangle(pen, worth, x, y),
+        Op::Clwb(_) | Op::ClflushOpt(_) => push_flush(pen, worth, x, y),
         Op::Clflush(_) => {
-            push_triangle(pen, worth, x, y);
+            push_flush(pen, worth, x, y);
             let (left, right) = (x.saturating_sub(7), x.saturating_add(7));
             pen.fill(
                 "<path class='mark under' d='M# #H#'/>",
@@ -77,17 +77,9 @@ fn push_box(pen: &mut Pen, class: &str, x: u64, y: u64, wide: u64, high: u64) {
     );
 }
 
-// Adds a triangle that points down; one whose fence is missing has an exclamation mark.
-fn push_triangle(pen: &mut Pen, worth: Worth, x: u64, y: u64) {
-    let (left, right) = (x.saturating_sub(7), x.saturating_add(7));
-    let (top, low) = (y.saturating_sub(6), y.saturating_add(6));
-    push_shape(
-        pen,
-        "path",
-        class_of(worth),
-        "d='M# #H#L# #Z'/>",
-        &[left, top, right, x, low],
-    );
+// Adds the mark of a flush; one whose fence is missing has an exclamation mark.
+fn push_flush(pen: &mut Pen, worth: Worth, x: u64, y: u64) {
+    push_triangle(pen, class_of(worth), x, y);
     if let Worth::Unfenced = worth {
         let (from, to) = (y.saturating_sub(4), y);
         pen.fill(
@@ -97,24 +89,25 @@ fn push_triangle(pen: &mut Pen, worth: Worth, x: u64, y: u64) {
     }
 }
 
+// Adds a triangle around this point, that points down.
+fn push_triangle(pen: &mut Pen, class: &str, x: u64, y: u64) {
+    let (left, right) = (x.saturating_sub(7), x.saturating_add(7));
+    let (top, low) = (y.saturating_sub(6), y.saturating_add(6));
+    push_shape(
+        pen,
+        "path",
+        class,
+        "d='M# #H#L# #Z'/>",
+        &[left, top, right, x, low],
+    );
+}
+
 /// Adds the mark of an event that is missing, around this point.
 pub fn push_missing_mark(pen: &mut Pen, wanted: Wanted, x: u64, y: u64) {
     match wanted {
         Wanted::Store(_) => push_box(pen, "mend", x, y, 4, 4),
         Wanted::Fence => push_box(pen, "mend", x, y, 3, 9),
-        Wanted::Flush(_) => push_shape(
-            pen,
-            "path",
-            "mend",
-            "d='M# #H#L# #Z'/>",
-            &[
-                x.saturating_sub(7),
-                y.saturating_sub(6),
-                x.saturating_add(7),
-                x,
-                y.saturating_add(6),
-            ],
-        ),
+        Wanted::Flush(_) => push_triangle(pen, "mend", x, y),
     }
 }
 

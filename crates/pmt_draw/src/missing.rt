@@ -6,12 +6,10 @@ use pmt_pen::Pen;
 use pmt_picture::{Missing, Wanted};
 use pmt_text::line_address;
 
-/// Adds what is missing in the band, from left to right.
+/// Adds what is missing, from left to right.
 pub fn push_missing(pen: &mut Pen, page: Page<'_>) {
-    for place in &page.band.places {
-        if let Some(missing) = page.picture.missing.get(place.missing) {
-            push_group(pen, page, missing, place.x);
-        }
+    for (missing, x) in page.picture.missing.iter().zip(page.layout.missing.iter()) {
+        push_group(pen, page, missing, *x);
     }
 }
 
@@ -65,7 +63,7 @@ fn push_group(pen: &mut Pen, page: Page<'_>, missing: &Missing, x: u64) {
     push_title(pen, page, missing);
     pen.put("</title>");
     push_words(pen, page, missing, x);
-    let y = page.band.thread_middle(missing.thread, page.threads);
+    let y = page.layout.thread_middle(missing.thread, page.threads);
     push_missing_mark(pen, missing.wanted, x, y);
     pen.put("</g>\n");
 }
@@ -120,11 +118,9 @@ fn push_words(pen: &mut Pen, page: Page<'_>, missing: &Missing, x: u64) {
 
 /// Adds the marks of the missing flushes of the line, in its row that begins there.
 pub fn push_missing_flushes(pen: &mut Pen, page: Page<'_>, line: u64, top: u64) {
-    for place in &page.band.places {
-        if let Some(missing) = page.picture.missing.get(place.missing) {
-            if missing.wanted == Wanted::Flush(line) {
-                push_small_missing(pen, missing.thread, place.x, top);
-            }
+    for (missing, x) in page.picture.missing.iter().zip(page.layout.missing.iter()) {
+        if missing.wanted == Wanted::Flush(line) {
+            push_small_missing(pen, missing.thread, *x, top);
         }
     }
 }

@@ -1,6 +1,5 @@
 //! The rows of the lines: their names, what is asserted of them, their flushes and the bars of their stores.
-use crate::band::lane_top;
-use crate::layout::{EDGE, LEFT};
+use crate::layout::{EDGE, LEFT, lane_top, row_height};
 use crate::marks::{push_small_flush, worth_of};
 use crate::missing::push_missing_flushes;
 use crate::page::Page;
@@ -9,28 +8,30 @@ use pmt_pen::Pen;
 use pmt_picture::{Role, Row};
 use pmt_text::line_address;
 
-/// Adds the rows of the lines that have something in the band.
+/// Adds the rows of the lines.
 pub fn push_rows(pen: &mut Pen, page: Page<'_>) {
     let mut top = page.rows;
     let mut shaded = true;
     for row in &page.picture.rows {
-        let height = page.band.row_height(page.picture, row);
-        if height > 0 {
-            push_row(pen, page, row, top, height, shaded);
-            top = top.saturating_add(height);
-            shaded = !shaded;
-        }
+        push_row(pen, page, row, top, shaded);
+        top = top.saturating_add(row_height(row));
+        shaded = !shaded;
     }
 }
 
 // Adds the row of a line, which begins there.
-fn push_row(pen: &mut Pen, page: Page<'_>, row: &Row, top: u64, height: u64, shaded: bool) {
+fn push_row(pen: &mut Pen, page: Page<'_>, row: &Row, top: u64, shaded: bool) {
     let address = line_address(page.picture.format, row.line);
     pen.fill("<g class='line' data-line='@'>", &[address]);
     if shaded {
         pen.fill(
             "<rect class='band' x='#' y='#' width='#' height='#'/>",
-            &[EDGE, top, page.band.right.saturating_sub(EDGE), height],
+            &[
+                EDGE,
+                top,
+                page.layout.right.saturating_sub(EDGE),
+                row_height(row),
+            ],
         );
     }
     pen.fill(
@@ -39,18 +40,14 @@ fn push_row(pen: &mut Pen, page: Page<'_>, row: &Row, top: u64, height: u64, sha
     );
     push_asserted(pen, page, row, top);
     for flush in &row.flushes {
-        if page.band.has_event(flush.number) {
-            if let Some(column) = page.picture.column(flush.number) {
-                let x = page.band.middle(flush.number);
-                push_small_flush(pen, worth_of(column), flush.thread, x, top);
-            }
+        if let Some(column) = page.picture.column(flush.number) {
+            let x = page.layout.middle(flush.number);
+            push_small_flush(pen, worth_of(column), flush.thread, x, top);
         }
     }
     push_missing_flushes(pen, page, row.line, top);
     for bar in &row.bars {
-        if page.band.has_bar(bar) {
-            push_bar(pen, page, bar, address, lane_top(top, bar.lane));
-        }
+        push_bar(pen, page, bar, address, lane_top(top, bar.lane));
     }
     pen.put("</g>\n");
 }

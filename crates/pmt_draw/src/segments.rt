@@ -10,9 +10,6 @@ use pmt_picture::{Bar, Column, Flush, Saver};
 // The width of a letter in a bar, in tenths of a pixel.
 const LETTER: u64 = 67;
 
-// The most stores that the title of a bar names.
-const MOST_NAMED: u64 = 24;
-
 // The states of a store.
 #[derive(Clone, Copy)]
 enum State {
@@ -24,19 +21,20 @@ enum State {
 /// Adds the bar of stores to the line of this address.
 pub fn push_bar(pen: &mut Pen, page: Page<'_>, bar: &Bar, address: u64, top: u64) {
     pen.fill(
-        "<g class='store' data-event='#' data-last='#' data-drawn='#' data-older='#' data-line='@'><title>",
-        &[bar.store, bar.last, bar.drawn, bar.older, address],
+        "<g class='store' data-event='#' data-last='#' data-drawn='#' data-line='@'><title>",
+        &[bar.store, bar.last, bar.drawn, address],
     );
     push_title(pen, page, bar);
     pen.put("</title>");
     let flushed = bar.flush.map(|flush| flush.number);
+    let safe = bar.safe.map(|saver| saver.number);
     push_segment(pen, page, bar, State::Pending, bar.store, flushed, top);
     if let Some(flush) = flushed {
-        if bar.safe != flushed {
-            push_segment(pen, page, bar, State::Flushed, flush, bar.safe, top);
+        if safe != flushed {
+            push_segment(pen, page, bar, State::Flushed, flush, safe, top);
         }
     }
-    if let Some(safe) = bar.safe {
+    if let Some(safe) = safe {
         push_segment(pen, page, bar, State::Safe, safe, bar.until, top);
     }
     push_ticks(pen, page, bar, top);
@@ -45,25 +43,11 @@ pub fn push_bar(pen: &mut Pen, page: Page<'_>, bar: &Bar, address: u64, top: u64
 
 // Adds what is told of a bar.
 fn push_title(pen: &mut Pen, page: Page<'_>, bar: &Bar) {
-    if bar.drawn == 0 {
-        pen.fill("event #, a store that is not drawn", &[bar.store]);
-        if bar.older > 0 {
-            pen.fill(", and # more that are not", &[bar.older]);
-        }
-        pen.put("; ");
-    }
-    let mut named: u64 = 0;
     for column in &page.picture.columns {
         if bar.has(page.picture.format, column) {
-            if named < MOST_NAMED {
-                push_event_words(pen, column, page.labels);
-                push_offset(pen, page, column);
-            }
-            named = named.saturating_add(1);
+            push_event_words(pen, column, page.labels);
+            push_offset(pen, page, column);
         }
-    }
-    if named > MOST_NAMED {
-        pen.fill("and # more stores; ", &[named.saturating_sub(MOST_NAMED)]);
     }
     match bar.flush {
         Some(Flush { number, thread }) => pen.fill(
@@ -72,20 +56,19 @@ fn push_title(pen: &mut Pen, page: Page<'_>, bar: &Bar) {
         ),
         None => pen.put("not flushed"),
     }
-    push_safe_title(pen, bar);
-}
-
-// Adds from when on the bar's stores are safe, and by what.
-fn push_safe_title(pen: &mut Pen, bar: &Bar) {
-    match (bar.safe, bar.saver) {
-        (Some(safe), Some(Saver { thread, is_fence })) => {
-            let thread = thread as u64;
-            pen.fill("; safe from event # on, ", &[safe]);
+    match bar.safe {
+        Some(
+            Saver {
+                number,
+                thread,
+                is_fence,
+            },
+        ) => {
+            pen.fill("; safe from event # on, ", &[number]);
             pen.put(if is_fence { "the fence" } else { "the clflush" });
-            pen.fill(" of thread #", &[thread]);
+            pen.fill(" of thread #", &[thread as u64]);
         }
-        (Some(safe), None) => pen.fill("; safe from event # on", &[safe]),
-        (None, _) => pen.put("; not safe"),
+        None => pen.put("; not safe"),
     }
 }
 
@@ -102,15 +85,12 @@ fn push_offset(pen: &mut Pen, page: Page<'_>, column: &Column) {
 fn push_ticks(pen: &mut Pen, page: Page<'_>, bar: &Bar, top: u64) {
     for column in &page.picture.columns {
         let number = column.number;
-        if number > bar.store
-            && page.band.has_event(number)
-            && bar.has(page.picture.format, column)
-        {
+        if number > bar.store && bar.has(page.picture.format, column) {
             pen.fill(
                 "<path class='stored' data-store='#' d='M# #V#'/>",
                 &[
                     number,
-                    page.band.middle(number),
+                    page.layout.middle(number),
                     top,
                     top.saturating_add(BAR),
                 ],
@@ -119,7 +99,7 @@ fn push_ticks(pen: &mut Pen, page: Page<'_>, bar: &Bar, top: u64) {
     }
 }
 
-// Adds one state of a bar, from one event to another or for good, as far as the band has it, with its words where there is room.
+// Adds one state of a bar, from one event to another or for good, with its words where there is room.
 fn push_segment(
     pen: &mut Pen,
     page: Page<'_>,
@@ -129,10 +109,10 @@ fn push_segment(
     to: Option<u64>,
     top: u64,
 ) {
-    let x = page.band.middle(from);
+    let x = page.layout.middle(from);
     let end = match to {
-        Some(to) => page.band.middle(to),
-        None => page.band.right,
+        Some(to) => page.layout.middle(to),
+        None => page.layout.right,
     };
     if end <= x {
         return;
@@ -183,18 +163,12 @@ fn push_longest(
     }
 }
 
-// Where the last store of the bar but the first begins in the band, if one does.
+// Where the last store of the bar but the first begins, if there is one.
 fn last_tick(page: Page<'_>, bar: &Bar) -> Option<u64> {
-    for column in page.picture.columns.iter().rev() {
-        let number = column.number;
-        if page.band.has_event(number) && bar.has(page.picture.format, column) {
-            if number == bar.store {
-                return None;
-            }
-            return Some(page.band.middle(number));
-        }
+    if bar.last == bar.store {
+        return None;
     }
-    None
+    Some(page.layout.middle(bar.last))
 }
 
 // Where words of the bar have room between these sides, and how much: no crash line crosses them, and no tick of a store.
@@ -206,8 +180,8 @@ fn room_in(page: Page<'_>, bar: &Bar, left: u64, right: u64) -> (u64, u64) {
             from = last.min(right);
         }
     }
-    for side in &page.band.sides {
-        let (low, high) = (side.x.saturating_sub(4), side.x.saturating_add(48));
+    if let Some(x) = page.layout.crash {
+        let (low, high) = (x.saturating_sub(4), x.saturating_add(48));
         if low < to && from < high {
             if low.saturating_sub(from) >= to.saturating_sub(high) {
                 to = low.max(from);
@@ -221,7 +195,7 @@ fn room_in(page: Page<'_>, bar: &Bar, left: u64, right: u64) -> (u64, u64) {
 
 // Adds the words for stores that are not flushed.
 fn push_pending(pen: &mut Pen, page: Page<'_>, bar: &Bar, detail: u8) {
-    let (store, last, older) = (bar.store, bar.last, bar.older);
+    let (store, last) = (bar.store, bar.last);
     let many = bar.drawn > 1;
     match detail {
         0 if many => pen.fill("#x", &[bar.drawn]),
@@ -229,7 +203,6 @@ fn push_pending(pen: &mut Pen, page: Page<'_>, bar: &Bar, detail: u8) {
         1 if many => pen.fill("# stores", &[bar.drawn]),
         1 => pen.fill("store #", &[store]),
         _ if many => pen.fill("# stores, # to #: not flushed", &[bar.drawn, store, last]),
-        _ if older > 0 => pen.fill("store # and # more: not flushed", &[store, older]),
         2 => pen.fill("store #: not flushed", &[store]),
         _ => {
             pen.fill("store #", &[store]);
@@ -269,22 +242,21 @@ fn push_flushed(pen: &mut Pen, bar: &Bar, detail: u8) {
 
 // Adds the words for stores that are safe, and what made them so.
 fn push_safe(pen: &mut Pen, bar: &Bar, detail: u8) {
-    match (bar.saver, bar.safe, detail) {
-        (_, _, 0) | (None, _, _) | (_, None, _) => pen.put("safe"),
-        (
-            Some(
-                Saver {
-                    thread,
-                    is_fence: _,
-                },
-            ),
-            _,
-            1,
-        ) => { pen.fill("safe by T#", &[thread as u64]) }
-        (Some(Saver { thread, is_fence }), Some(safe), _) => {
+    if let Some(saver) = bar.safe {
+        push_saver(pen, saver, detail);
+    }
+}
+
+// Adds what makes it so, in so much detail.
+fn push_saver(pen: &mut Pen, saver: Saver, detail: u8) {
+    let thread = saver.thread as u64;
+    match detail {
+        0 => pen.put("safe"),
+        1 => pen.fill("safe by T#", &[thread]),
+        _ => {
             pen.put("safe by ");
-            pen.put(if is_fence { "fence" } else { "clflush" });
-            pen.fill(" # of T#", &[safe, thread as u64]);
+            pen.put(if saver.is_fence { "fence" } else { "clflush" });
+            pen.fill(" # of T#", &[saver.number, thread]);
         }
     }
 }

@@ -1,41 +1,37 @@
 //! The picture as SVG.
-use crate::band::Band;
 use crate::head::push_head;
 use crate::header::{push_columns, words_height};
-use crate::labels::Label;
-use crate::layout::{EDGE, Layout};
+use crate::layout::{EDGE, Layout, row_height};
 use crate::legend::{legend_height, push_legend};
 use crate::missing::push_missing;
-use crate::page::{Page, rows_height};
+use crate::page::Page;
 use crate::rows::push_rows;
 use crate::style::{PATTERNS, STYLE};
 use crate::threads::push_threads;
-use crate::veil::{NAME_LINE, push_crashes};
+use crate::veil::{NAME_LINE, push_crash};
+use pmt_asked::Labels;
 use pmt_model::OutOfMemory;
 use pmt_pen::Pen;
 use pmt_picture::Picture;
 use std::alloc::Global;
 
-// The room between two bands, and round the legend.
+// The room over the legend.
 const APART: u64 = 28;
 
-/// The picture as one SVG that needs nothing else. The labels go by rising event number. The same picture and labels give the same
-/// text.
+/// The picture as one SVG that needs nothing else. The same picture and labels give the same text.
 ///
 /// # Errors
 /// Where memory was refused.
-pub fn svg_text(alloc: Global, picture: &Picture, labels: &[Label]) -> Result<String, OutOfMemory> {
+pub fn svg_text(alloc: Global, picture: &Picture, labels: &Labels) -> Result<String, OutOfMemory> {
     let layout = Layout::new(alloc, picture)?;
     let mut drawn = Pen::new(alloc);
-    let mut end = push_head(&mut drawn, picture, &layout);
-    for band in &layout.bands {
-        let page = page_of(picture, &layout, band, labels, end);
-        push_band(&mut drawn, page);
-        end = page.end.saturating_add(APART);
-    }
+    let top = push_head(&mut drawn, picture, &layout);
+    let page = page_of(picture, &layout, labels, top);
+    push_page(&mut drawn, page);
+    let end = page.end.saturating_add(APART);
     let mut pen = Pen::new(alloc);
     let height = end.saturating_add(legend_height(drawn.as_str()));
-    push_opening(&mut pen, picture, layout.width, height);
+    push_opening(&mut pen, picture, layout.width(), height);
     pen.share(&drawn);
     pen.put(drawn.as_str());
     push_legend(&mut pen, drawn.as_str(), EDGE, end);
@@ -43,43 +39,42 @@ pub fn svg_text(alloc: Global, picture: &Picture, labels: &[Label]) -> Result<St
     pen.finish()
 }
 
-// The page of a band that begins there.
-fn page_of<'a>(
-    picture: &'a Picture,
-    layout: &'a Layout,
-    band: &'a Band,
-    labels: &'a [Label],
-    top: u64,
-) -> Page<'a> {
+// The page that begins there, below the head.
+fn page_of<'a>(picture: &'a Picture, layout: &'a Layout, labels: &'a Labels, top: u64) -> Page<'a> {
+    let names = if picture.crash.is_some() {
+        NAME_LINE
+    } else {
+        0
+    };
     let threads = top
-        .saturating_add(NAME_LINE.saturating_mul(band.sides.len() as u64))
+        .saturating_add(names)
         .saturating_add(words_height(picture, layout, labels));
     let rows = threads
-        .saturating_add(band.threads_height())
+        .saturating_add(layout.threads_height())
         .saturating_add(12);
+    let mut end = rows;
+    for row in &picture.rows {
+        end = end.saturating_add(row_height(row));
+    }
     Page {
         picture,
         layout,
-        band,
         labels,
-        crashes: top,
+        name: top,
         threads,
         rows,
-        end: rows.saturating_add(rows_height(picture, band)),
+        end,
     }
 }
 
-// Adds a band.
-fn push_band(pen: &mut Pen, page: Page<'_>) {
-    pen.fill(
-        "<g class='columns' data-after='#'>\n",
-        &[page.band.start.before],
-    );
+// Adds what is drawn below the head.
+fn push_page(pen: &mut Pen, page: Page<'_>) {
+    pen.put("<g class='columns'>\n");
     push_threads(pen, page);
     push_rows(pen, page);
     push_columns(pen, page);
     push_missing(pen, page);
-    push_crashes(pen, page);
+    push_crash(pen, page);
     pen.put("</g>\n");
 }
 

@@ -8,14 +8,10 @@ use pmt_picture::{Column, Picture, waits_for_fence};
 /// Adds the rows of the threads, without the marks of their events.
 pub fn push_threads(pen: &mut Pen, page: Page<'_>) {
     let mut top = page.threads;
-    for thread in &page.band.threads {
+    for thread in &page.layout.threads {
         push_name(pen, page, top);
         pen.fill("thread #</text>\n", &[*thread as u64]);
         top = top.saturating_add(THREAD);
-    }
-    if page.band.others {
-        push_name(pen, page, top);
-        pen.put("other threads</text>\n");
     }
     for column in &page.picture.columns {
         push_wait(pen, page, column);
@@ -28,23 +24,22 @@ fn push_name(pen: &mut Pen, page: Page<'_>, top: u64) {
     let low = top.saturating_add(THREAD / 2 + 4);
     pen.fill(
         "<line class='rule' x1='#' y1='#' x2='#' y2='#'/>",
-        &[LEFT, middle, page.band.right, middle],
+        &[LEFT, middle, page.layout.right, middle],
     );
     pen.fill("<text class='end' x='#' y='#'>", &[LEFT - 14, low]);
 }
 
-// Adds the line from a flush to where it ends, as far as this band has it. Threads that share a row have none, since there it would not say
-// whose it is.
+// Adds the line from a flush to where it ends.
 fn push_wait(pen: &mut Pen, page: Page<'_>, column: &Column) {
     let thread = column.event.thread;
-    if !waits_for_fence(&column.event.op) || !page.band.has_thread(thread) {
+    if !waits_for_fence(&column.event.op) {
         return;
     }
-    let y = page.band.thread_middle(thread, page.threads);
-    let from = page.band.middle(column.number);
+    let y = page.layout.thread_middle(thread, page.threads);
+    let from = page.layout.middle(column.number);
     let to = match wait_end(page.picture, column) {
-        Some(end) => page.band.middle(end),
-        None => page.band.right,
+        Some(end) => page.layout.middle(end),
+        None => page.layout.right,
     };
     if from < to {
         push_shape(

@@ -1,5 +1,5 @@
 //! The words of the picture.
-use crate::labels::{Label, label_of};
+use pmt_asked::Labels;
 use pmt_model::Event;
 use pmt_pen::Pen;
 use pmt_picture::{Assertion, Column, Crash, Picture};
@@ -44,12 +44,12 @@ pub fn push_event(pen: &mut Pen, column: &Column) {
 }
 
 /// Adds the event's number, its words and its label.
-pub fn push_event_words(pen: &mut Pen, column: &Column, labels: &[Label]) {
+pub fn push_event_words(pen: &mut Pen, column: &Column, labels: &Labels) {
     pen.fill("event #: ", &[column.number]);
     push_event(pen, column);
-    if let Some(label) = label_of(labels, column.number) {
+    if let Some(label) = labels.get(column.number) {
         pen.put(" (");
-        push_escaped(pen, label);
+        push_escaped(pen, label.as_str());
         pen.put(")");
     }
 }

@@ -16,14 +16,11 @@ use Rattle.pmt_explain.specs.declared.bytes.CrashByte.{CrashByte}
 use Rattle.pmt_dropping.specs.declared.dropped_event.Dropped.{Dropped}
 use Rattle.pmt_explain.specs.declared.lost_grouping.LostGroup.{LostGroup}
 use Rattle.pmt_explain.specs.declared.overwritten_grouping.OverwrittenGroup.{OverwrittenGroup}
-use Rattle.pmt_causes.specs.declared.counting.Count.{Count}
-use Rattle.pmt_causes.specs.declared.details.CauseCounts.{CauseCounts}
-use Rattle.pmt_causes.specs.declared.details.Maker.{Maker}
 use Rattle.pmt_causes.specs.declared.failure_keys.FailureKey.{FailureKey}
 use Rattle.pmt_causes.specs.declared.grouping.Group.{Group}
 use Rattle.pmt_causes.specs.declared.late.LateSpot.{LateSpot}
-use Rattle.pmt_causes.specs.declared.tables.Row.{Row}
 use Rattle.pmt_causes.specs.Groups.{first_in}
+use Rattle.pmt_entries.specs.declared.verdict.Verdict.{Verdict}
 use Rattle.pmt_explanation.specs.declared.explaining.Explanation.{Explanation}
 use Rattle.pmt_failures.specs.declared.failures.RangeAfter.{RangeAfter}
 use Rattle.pmt_failures.specs.declared.failures.ShownCrash.{ShownCrash}
@@ -37,9 +34,8 @@ use Rattle.pmt_reasons.specs.Mends.{mend_of}
 use Rattle.pmt_explain_json.specs.Parts.{or_null, count_data, address_data, address_of, known_event_data, event_data, line_data, byte_store_data, range_data, cause_data, by_of, reason_data, mend_data}
 use Rattle.pmt_explain_json.specs.Entries.{line_count_data, byte_store, byte_value, range_after_data, failure_data, lost_data, dropped_data, overwritten_data, ranges_of, unwritten_data}
 use Rattle.pmt_explain_json.specs.Groups.{cause_group_data}
-use Rattle.pmt_explain_json.specs.Inside.{maker_count_data, maker_label, maker_thread, part_count_data}
 use Rattle.pmt_explain_json.specs.Places.{place_label, place_thread}
-use Rattle.pmt_explain_json.specs.Tables.{label_row_data, late_data, spot_label, spot_line}
+use Rattle.pmt_explain_json.specs.Tables.{late_data, spot_label, spot_line}
 use Rattle.pmt_asked.specs.declared.choosing.Choice.{Choice}
 use Rattle.pmt_asked.specs.declared.choosing.Kind.{Kind}
 use Rattle.pmt_asked.specs.declared.ignoring.ByteRange.{ByteRange}
@@ -55,7 +51,7 @@ pub or_null-float : {A : Type 0} (f : A → Data) → ((x : A) → has_float (f 
 or_null-float f each None = refl
 or_null-float f each (Some x) = each x
 
-array-float : {A : Type 0} (f : A → Data) → ((x : A) → has_float (f x) ≡ false) → (xs : List A) → items_have_float (items_of (map f xs)) ≡ false
+pub array-float : {A : Type 0} (f : A → Data) → ((x : A) → has_float (f x) ≡ false) → (xs : List A) → items_have_float (items_of (map f xs)) ≡ false
 array-float f each [] = refl
 array-float f each (x ∷ xs) = both (has_float (f x)) (items_have_float (items_of (map f xs))) (each x) (array-float f each xs)
 
@@ -146,23 +142,11 @@ unwritten-float T labels u =
     (both (items_have_float (items_of (map range_data (ranges_of u.first ++ ranges_of u.second)))) false
     (array-float range_data (λ r. refl) (ranges_of u.first ++ ranges_of u.second)) refl)
 
-maker-float : (labels : Labels) (whole : Bool) (c : Count Maker) → has_float (maker_count_data labels whole c) ≡ false
-maker-float labels whole c =
-    both (has_float (or_null string (maker_label labels whole c.key))) _ (label-float (maker_label labels whole c.key))
-    (both (has_float (or_null count_data (maker_thread c.key))) false (count-float (maker_thread c.key)) refl)
-
-makers-float : (labels : Labels) (whole : Bool) (cs : List (Count Maker)) → items_have_float (items_of (map (maker_count_data labels whole) cs)) ≡ false
-makers-float labels whole cs = array-float (maker_count_data labels whole) (maker-float labels whole) cs
-
-pub cause_group-float : (labels : Labels) (g : Group FailureKey) (c : CauseCounts) → has_float (cause_group_data labels g c) ≡ false
-cause_group-float labels g c =
-    both (items_have_float (items_of (map (maker_count_data labels true) c.claims.told.items))) _ (makers-float labels true c.claims.told.items)
-    (both (items_have_float (items_of (map count_data g.members.items))) _ (array-float count_data (λ n. refl) g.members.items)
+pub cause_group-float : (labels : Labels) (g : Group FailureKey) → has_float (cause_group_data labels g) ≡ false
+cause_group-float labels g =
+    both (items_have_float (items_of (map count_data g.members.items))) _ (array-float count_data (λ n. refl) g.members.items)
     (both (has_float (or_null string (place_label labels g.key.origin))) _ (label-float (place_label labels g.key.origin))
-    (both (items_have_float (items_of (map (maker_count_data labels false) c.next.told.items))) _ (makers-float labels false c.next.told.items)
-    (both (items_have_float (items_of (map part_count_data c.parts.told.items))) _ (array-float part_count_data (λ p. refl) c.parts.told.items)
-    (both (items_have_float (items_of (map (maker_count_data labels true) c.stores.told.items))) _ (makers-float labels true c.stores.told.items)
-    (both (has_float (or_null count_data (place_thread g.key.origin))) false (count-float (place_thread g.key.origin)) refl))))))
+    (both (has_float (or_null count_data (place_thread g.key.origin))) false (count-float (place_thread g.key.origin)) refl))
 
 line-float : (T : Recording) (o : Option ℕ) → has_float (or_null (line_data T) o) ≡ false
 line-float T o = or_null-float (line_data T) (λ l. refl) o
@@ -172,9 +156,6 @@ late-float T labels g =
     both (has_float (or_null (line_data T) (spot_line g.key))) _ (line-float T (spot_line g.key))
     (both (has_float (event_data T labels (first_in g))) _ (event-float T labels (first_in g))
     (both (has_float (or_null string (spot_label labels g.key))) false (label-float (spot_label labels g.key)) refl))
-
-pub label_row-float : (labels : Labels) (r : Row ℕ) → has_float (label_row_data labels r) ≡ false
-label_row-float labels r = both (has_float (or_null string (label_of labels r.key))) false (label-float (label_of labels r.key)) refl
 
 label_text-float : (o : Option (String Global)) → has_float (or_null (λ s. string (string_bytes s)) o) ≡ false
 label_text-float o = or_null-float (λ s. string (string_bytes s)) (λ s. refl) o
@@ -197,10 +178,10 @@ asked-float c =
 lack-float : (l : Lack) → has_float (lack_data l) ≡ false
 lack-float l = both (has_float (or_null count_data l.count)) false (count-float l.count) refl
 
-pub summary-float : (s : Summary) (limit : ℕ) (c : Choice) (more : Data) (lacks : List Lack) → has_float more ≡ false → has_float (summary_data s limit c more lacks) ≡ false
-summary-float s limit c more lacks none =
+pub summary-float : (s : Summary) (limit : ℕ) (c : Choice) (more : Data) (lacks : List Lack) (v : Verdict) → has_float more ≡ false → has_float (summary_data s limit c more lacks v) ≡ false
+summary-float s limit c more lacks v none =
     both (has_float (asked_data c)) _ (asked-float c)
     (both (items_have_float (items_of (map lack_data lacks))) _ (array-float lack_data lack-float lacks) (both (has_float more) false none refl))
 
-pub more-float : (x : Explanation) → has_float (more_data x) ≡ false
-more-float x = refl
+pub more-float : (x : Explanation) (c : Choice) → has_float (more_data x c) ≡ false
+more-float x c = refl

@@ -18,17 +18,14 @@ pushed-4 s s1 s2 s3 s4 a b c d e f g h = push-on s s3 s4 (a ++ b ++ c) d (pushed
 pub pushed-5 : (s s1 s2 s3 s4 s5 a b c d e : List ℕ) → s1 ≡ s ++ a → s2 ≡ s1 ++ b → s3 ≡ s2 ++ c → s4 ≡ s3 ++ d → s5 ≡ s4 ++ e → s5 ≡ s ++ (a ++ b ++ c ++ d ++ e)
 pushed-5 s s1 s2 s3 s4 s5 a b c d e f g h i j = push-on s s4 s5 (a ++ b ++ c ++ d) e (pushed-4 s s1 s2 s3 s4 a b c d f g h i) j
 
-pub pushed-6 : (s s1 s2 s3 s4 s5 s6 a b c d k m : List ℕ) → s1 ≡ s ++ a → s2 ≡ s1 ++ b → s3 ≡ s2 ++ c → s4 ≡ s3 ++ d → s5 ≡ s4 ++ k → s6 ≡ s5 ++ m → s6 ≡ s ++ (a ++ b ++ c ++ d ++ k ++ m)
-pushed-6 s s1 s2 s3 s4 s5 s6 a b c d k m e f g h i j = push-on s s5 s6 (a ++ b ++ c ++ d ++ k) m (pushed-5 s s1 s2 s3 s4 s5 a b c d k e f g h i) j
-
-pub pushed-8 : (s s1 s2 s3 s4 s5 s6 s7 s8 a b c d k m n o : List ℕ) →
-    s1 ≡ s ++ a → s2 ≡ s1 ++ b → s3 ≡ s2 ++ c → s4 ≡ s3 ++ d → s5 ≡ s4 ++ k → s6 ≡ s5 ++ m → s7 ≡ s6 ++ n → s8 ≡ s7 ++ o →
-    s8 ≡ s ++ (a ++ b ++ c ++ d ++ k ++ m ++ n ++ o)
-pushed-8 s s1 s2 s3 s4 s5 s6 s7 s8 a b c d k m n o e f g h i j l p =
-    push-on s s7 s8 (a ++ b ++ c ++ d ++ k ++ m ++ n) o
+pub pushed-9 : (s s1 s2 s3 s4 s5 s6 s7 s8 s9 a b c d k m n o p : List ℕ) →
+    s1 ≡ s ++ a → s2 ≡ s1 ++ b → s3 ≡ s2 ++ c → s4 ≡ s3 ++ d → s5 ≡ s4 ++ k → s6 ≡ s5 ++ m → s7 ≡ s6 ++ n → s8 ≡ s7 ++ o → s9 ≡ s8 ++ p →
+    s9 ≡ s ++ (a ++ b ++ c ++ d ++ k ++ m ++ n ++ o ++ p)
+pushed-9 s s1 s2 s3 s4 s5 s6 s7 s8 s9 a b c d k m n o p e f g h i j l q r =
+    push-on s s8 s9 (a ++ b ++ c ++ d ++ k ++ m ++ n ++ o) p
+    (push-on s s7 s8 (a ++ b ++ c ++ d ++ k ++ m ++ n) o
     (push-on s s6 s7 (a ++ b ++ c ++ d ++ k ++ m) n
-    (push-on s s5 s6 (a ++ b ++ c ++ d ++ k) m
-    (push-on s s4 s5 (a ++ b ++ c ++ d) k (pushed-4 s s1 s2 s3 s4 a b c d e f g h) i) j) l) p
+    (push-on s s5 s6 (a ++ b ++ c ++ d ++ k) m (pushed-5 s s1 s2 s3 s4 s5 a b c d k e f g h i) j) l) q) r
 
 -- The values of the first items, with one more pushed.
 pub value-pushed : {A : Type 0} → (f : A → Data) (xs : List A) (i : ℕ) (d : A) (old new : List Value) (v : Value) →

@@ -4,7 +4,7 @@ use Rattle.serde_json.specs.Data.{Data, string}
 use Rattle.pmt_model.specs.Traces.{Recording}
 use Rattle.pmt_hints.specs.declared.hint.Hint.{Hint}
 use Rattle.pmt_hints.specs.declared.hint.HintKind.{HintKind}
-use Rattle.pmt_hints.specs.declared.hint.HintKind.TheVariants.{OneLineShort, OpenAtStore, SplitWord, StoredAfterFlush}
+use Rattle.pmt_hints.specs.declared.hint.HintKind.TheVariants.{OneLineShort, OpenAtStore, SplitWord, StoredAfterFlush, StoredAfterMark}
 use Rattle.pmt_asked.specs.declared.labels.Labels.{Labels}
 use Rattle.pmt_asked.specs.Labelling.{label_of}
 use Rattle.pmt_explain_json.specs.Parts.{count_data, event_data, json_line, object_of, or_null}
@@ -16,6 +16,7 @@ hint_name OpenAtStore = codes "open_at_store"
 hint_name StoredAfterFlush = codes "stored_after_flush"
 hint_name SplitWord = codes "split_word"
 hint_name OneLineShort = codes "one_line_short"
+hint_name StoredAfterMark = codes "stored_after_mark"
 
 -- The label that a path is.
 abbrev pub path_label : Labels → Option ℕ → Option (List ℕ)

@@ -1,9 +1,10 @@
 pub mod Entries
+pub mod Facts
 pub mod Groups
 pub mod Hints
-pub mod Inside
 pub mod Lines
 pub mod Parts
 pub mod Places
 pub mod Tables
+pub mod Weighed
 pub mod Clean

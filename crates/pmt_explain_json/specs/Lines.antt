@@ -3,6 +3,7 @@ use Rattle.std.specs.Prelude.{◌≡◌, ℕ, ◌-◌, List, [], ◌∷◌, ◌+
 use Rattle.std.specs.List.{flat_map}
 use Rattle.serde_json.specs.Data.{Data, string}
 use Rattle.pmt_asked.specs.declared.choosing.Choice.{Choice}
+use Rattle.pmt_entries.specs.declared.verdict.Verdict.{Verdict}
 use Rattle.pmt_explanation.specs.declared.explaining.Explanation.{Explanation}
 use Rattle.pmt_asked.specs.declared.ignoring.ByteRange.{ByteRange}
 use Rattle.pmt_asked.specs.declared.labels.Labels.{Labels}
@@ -14,24 +15,24 @@ use Rattle.pmt_explanation.specs.Counting.{per_cent}
 use Rattle.pmt_explanation.specs.Summing.{IsSummary}
 use Rattle.pmt_explain_json.specs.declared.lacking.Lack.{Lack}
 use Rattle.pmt_explain_json.specs.Parts.{json_line, object_of, array_of, count_data, address_data, or_null}
-use Rattle.pmt_explain_json.specs.Groups.{cause_lines}
+use Rattle.pmt_explain_json.specs.Groups.{cause_line}
 use Rattle.pmt_explain_json.specs.Tables.{table_lines}
+use Rattle.pmt_explain_json.specs.Weighed.{entry_line, told_entries, verdict_name}
 use Rattle.pmt_explain_json.specs.Entries.{failure_line, lost_line, dropped_line, overwritten_line, unwritten_line}
 
 -- How many entries are not shown.
-abbrev pub more_data : Explanation → Data
-more_data x = object_of
+abbrev pub more_data : Explanation → Choice → Data
+more_data x c = object_of
     ((codes "cause", count_data (length x.causes.items - x.limit))
     ∷ (codes "dropped", count_data (length x.asked_dropped.items - x.limit))
+    ∷ (codes "entry", count_data (length (told_entries x c) - x.limit))
     ∷ (codes "failure", count_data (length x.causes.items - x.limit))
-    ∷ (codes "hint", count_data (length x.hints.items - x.limit))
-    ∷ (codes "label", count_data (length x.labelled.items - x.limit))
+    ∷ (codes "hint", count_data (length x.asked_hints.items - x.limit))
     ∷ (codes "late", count_data (length x.late.items - x.limit))
     ∷ (codes "never_persisted", count_data (length x.lost.items - x.limit))
     ∷ (codes "overwritten", count_data (length x.overwritten.items - x.limit))
     ∷ (codes "path", count_data (length x.left_paths.items - x.limit))
     ∷ (codes "place", count_data (length x.places.items - x.limit))
-    ∷ (codes "thread", count_data (length x.threads.items - x.limit))
     ∷ (codes "unwritten", count_data (length x.unwritten.items - x.limit))
     ∷ [])
 
@@ -53,9 +54,9 @@ abbrev pub lack_data : Lack → Data
 lack_data l = object_of
     ((codes "count", or_null count_data l.count) ∷ (codes "kind", string (string_bytes l.kind)) ∷ (codes "what", string (string_bytes l.what)) ∷ [])
 
--- The counts, what is asked for, what the trace lacks, how many entries of each kind are shown at most, and how many are not shown.
-abbrev pub summary_data : Summary → ℕ → Choice → Data → List Lack → Data
-summary_data s limit c more lacks = object_of
+-- The counts, the verdict, what is asked for, what the trace lacks, how many entries of each kind are shown at most, and how many are not shown.
+abbrev pub summary_data : Summary → ℕ → Choice → Data → List Lack → Verdict → Data
+summary_data s limit c more lacks v = object_of
     ((codes "asked", asked_data c)
     ∷ (codes "assertions", count_data s.assertions)
     ∷ (codes "cache_lines", count_data s.cache_lines)
@@ -74,20 +75,22 @@ summary_data s limit c more lacks = object_of
     ∷ (codes "limit", count_data limit)
     ∷ (codes "more", more)
     ∷ (codes "never_persisted", count_data s.never_persisted)
-    ∷ (codes "schema", count_data 3)
+    ∷ (codes "schema", count_data 4)
     ∷ (codes "stores", count_data s.stores)
     ∷ (codes "threads", count_data s.threads)
+    ∷ (codes "verdict", string (verdict_name v))
     ∷ [])
 
 abbrev pub summary_line : Explanation → Choice → Summary → List Lack → List ℕ
-summary_line x c s lacks = json_line (summary_data s x.limit c (more_data x) lacks)
+summary_line x c s lacks = json_line (summary_data s x.limit c (more_data x c) lacks x.entries.verdict)
 
--- The summary and the entries of each kind, an object a line: of each kind at most as many as the limit says, the first ones; and what the
+-- The summary, the entries by weight, and those of each kind, an object a line: of each kind at most as many as the limit says, the first ones; and what the
 -- crashes of the failed assertions leave.
 unfoldable pub json_lines : Explanation → Choice → Summary → List Lack → List ShownCrash → Labels → List ℕ
 json_lines x c s lacks crashes labels =
     summary_line x c s lacks
-    ++ cause_lines labels (take x.limit x.causes.items) x.counts.items (length (take x.limit x.causes.items))
+    ++ flat_map (entry_line x labels) (take x.limit (told_entries x c))
+    ++ flat_map (cause_line labels) (take x.limit x.causes.items)
     ++ flat_map (failure_line x.analysis.trace labels) crashes
     ++ flat_map (lost_line x.analysis.trace labels) (take x.limit x.lost.items)
     ++ flat_map (dropped_line x.analysis.trace labels) (take x.limit x.asked_dropped.items)

@@ -1,4 +1,4 @@
--- Places, paths, hints, late stores, and what threads and labels have, as JSON.
+-- Places, paths, hints and late stores as JSON.
 use Rattle.std.specs.Prelude.{true, false, ℕ, List, [], ◌∷◌, ◌++◌, length, take, Option, None, Some, codes}
 use Rattle.std.specs.List.{flat_map}
 use Rattle.serde_json.specs.Data.{Data, string}
@@ -6,12 +6,10 @@ use Rattle.pmt_model.specs.Traces.{Recording}
 use Rattle.pmt_causes.specs.declared.grouping.Group.{Group}
 use Rattle.pmt_causes.specs.declared.late.LateSpot.{LateSpot}
 use Rattle.pmt_causes.specs.declared.late.LateSpot.TheVariants.{Label, Line}
-use Rattle.pmt_causes.specs.declared.tables.Row.{Row}
 use Rattle.pmt_causes.specs.Groups.{first_in}
 use Rattle.pmt_explanation.specs.declared.explaining.Explanation.{Explanation}
 use Rattle.pmt_asked.specs.declared.labels.Labels.{Labels}
 use Rattle.pmt_asked.specs.Framing.{frame_of}
-use Rattle.pmt_asked.specs.Labelling.{label_of}
 use Rattle.pmt_explain_json.specs.Hints.{hint_line}
 use Rattle.pmt_explain_json.specs.Parts.{count_data, event_data, json_line, line_data, object_of, or_null}
 use Rattle.pmt_explain_json.specs.Places.{place_line}
@@ -36,43 +34,13 @@ late_data T labels g = object_of
     ∷ (codes "label", or_null string (spot_label labels g.key))
     ∷ [])
 
--- What a thread has.
-abbrev pub thread_row_data : Row ℕ → Data
-thread_row_data r = object_of
-    ((codes "dropped", count_data r.dropped)
-    ∷ (codes "fences", count_data r.fences)
-    ∷ (codes "flushes", count_data r.flushes)
-    ∷ (codes "kind", string (codes "thread"))
-    ∷ (codes "stores", count_data r.stores)
-    ∷ (codes "thread", count_data r.key)
-    ∷ [])
-
--- What a label has.
-abbrev pub label_row_data : Labels → Row ℕ → Data
-label_row_data labels r = object_of
-    ((codes "dropped", count_data r.dropped)
-    ∷ (codes "fences", count_data r.fences)
-    ∷ (codes "flushes", count_data r.flushes)
-    ∷ (codes "kind", string (codes "label"))
-    ∷ (codes "label", or_null string (label_of labels r.key))
-    ∷ (codes "stores", count_data r.stores)
-    ∷ [])
-
 abbrev pub late_line : Recording → Labels → Group LateSpot → List ℕ
 late_line T labels g = json_line (late_data T labels g)
 
-abbrev pub thread_line : Row ℕ → List ℕ
-thread_line r = json_line (thread_row_data r)
-
-abbrev pub label_line : Labels → Row ℕ → List ℕ
-label_line labels r = json_line (label_row_data labels r)
-
--- The places, the paths, the hints, the late stores, the threads and the labels: of each kind at most as many as the limit says, the first ones.
+-- The places, the paths, the hints and the late stores: of each kind at most as many as the limit says, the first ones.
 unfoldable pub table_lines : Explanation → Labels → List ℕ
 table_lines x labels =
     flat_map (place_line x.analysis.trace labels false) (take x.limit x.places.items)
     ++ flat_map (place_line x.analysis.trace labels true) (take x.limit x.left_paths.items)
-    ++ flat_map (hint_line x.analysis.trace labels) (take x.limit x.hints.items)
+    ++ flat_map (hint_line x.analysis.trace labels) (take x.limit x.asked_hints.items)
     ++ flat_map (late_line x.analysis.trace labels) (take x.limit x.late.items)
-    ++ flat_map thread_line (take x.limit x.threads.items)
-    ++ flat_map (label_line labels) (take x.limit x.labelled.items)

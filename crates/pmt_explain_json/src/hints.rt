@@ -73,7 +73,11 @@ fn hint_value(
 }
 
 // The label that the path is, if there is one.
-fn path_or_null(alloc: Global, labels: &Labels, path: Option<u64>) -> Result<Value, OutOfMemory>
+pub(crate) fn path_or_null(
+    alloc: Global,
+    labels: &Labels,
+    path: Option<u64>,
+) -> Result<Value, OutOfMemory>
     ensures { IfOk result (λ v. view v ≡ or_null string (path_label labels.now path)) }
 {
     match path {
@@ -83,7 +87,7 @@ fn path_or_null(alloc: Global, labels: &Labels, path: Option<u64>) -> Result<Val
 }
 
 // The name of the kind of hint.
-fn hint_name(kind: HintKind) -> &'static str
+pub(crate) fn hint_name(kind: HintKind) -> &'static str
     ensures { result.now ≡ name_in kind }
 {
     match kind {
@@ -91,5 +95,6 @@ fn hint_name(kind: HintKind) -> &'static str
         HintKind::StoredAfterFlush => "stored_after_flush",
         HintKind::SplitWord => "split_word",
         HintKind::OneLineShort => "one_line_short",
+        HintKind::StoredAfterMark => "stored_after_mark",
     }
 }

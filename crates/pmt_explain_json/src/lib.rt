@@ -5,9 +5,9 @@
 
 mod causes;
 mod entries;
+mod facts;
 mod failures;
 mod hints;
-mod inside;
 mod lacking;
 pub mod laws;
 mod lines;
@@ -16,6 +16,7 @@ mod parts;
 mod places;
 mod summary;
 mod tables;
+mod weighed;
 mod words;
 
 pub use crate::lacking::Lack;

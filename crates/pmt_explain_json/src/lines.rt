@@ -1,5 +1,5 @@
 //! The lines of JSON that tell an explanation.
-ghost use Rattle.std.specs.Prelude.{◌≡◌, ◌++◌, IfOk, List, OnOk, false, length, slice_get};
+ghost use Rattle.std.specs.Prelude.{◌≡◌, ◌++◌, IfOk, List, OnOk, false};
 ghost use Rattle.std.specs.List.{flat_map};
 ghost use Rattle.serde_json.specs.View.{view};
 ghost use Rattle.serde_json.specs.Written.{has_float};
@@ -7,7 +7,7 @@ ghost use Rattle.pmt_failures.specs.declared.failures.ShownCrash.{ShownCrash};
 ghost use Rattle.pmt_failures.specs.Showing.{AreShownCrashes, IsShownCrash};
 ghost use Rattle.pmt_explain_json.specs.Parts.{json_line};
 ghost use Rattle.pmt_explain_json.specs.Entries.{dropped_line, failure_line, lost_line, overwritten_line, unwritten_line};
-ghost use Rattle.pmt_explain_json.specs.Groups.{cause_line, cause_line_of, cause_lines};
+ghost use Rattle.pmt_explain_json.specs.Groups.{cause_line};
 ghost use Rattle.pmt_explain_json.specs.Lines.{IsJsonText, summary_line};
 
 use crate::causes::cause_group_value;
@@ -16,8 +16,9 @@ use crate::failures::failure_value;
 use crate::lacking::Lack;
 use crate::summary::{more_value, summary_value};
 use crate::tables::push_tables;
+use crate::weighed::{push_entries, told_entries};
 use pmt_asked::{Choice, Labels};
-use pmt_causes::{CauseCounts, FailureKey, Group};
+use pmt_causes::{FailureKey, Group};
 use pmt_dropping::Dropped;
 use pmt_explain::{LostGroup, OverwrittenGroup};
 use pmt_explanation::{Explanation, Summary, first, summary_of};
@@ -26,8 +27,8 @@ use pmt_model::{OutOfMemory, Trace};
 use serde_json::Value;
 use std::alloc::Global;
 
-/// The explanation as JSON, an object a line: the summary, with what was asked for and what the trace lacks, and the entries of each
-/// kind, at most as many as the limit says.
+/// The explanation as JSON, an object a line: the summary, with the verdict, what was asked for and what the trace lacks; where no option
+/// chooses findings the entries by weight; and what there is of each kind. Of all these at most as many as the limit says.
 ///
 /// # Errors
 /// Where memory was refused.
@@ -42,6 +43,7 @@ pub fn json_text(
 {
     let trace = explanation.analysis.trace();
     let limit = explanation.limit;
+    let entries = first(told_entries(explanation, choice), limit);
     let causes = first(explanation.causes.as_slice(), limit);
     let failures = explanation.failures.as_slice();
     let lost = first(explanation.lost.as_slice(), limit);
@@ -51,13 +53,8 @@ pub fn json_text(
     let counts = summary_of(explanation);
     let mut text = Vec::new(alloc);
     push_summary(alloc, &mut text, explanation, choice, &counts, lacks)?;
-    push_causes(
-        alloc,
-        &mut text,
-        labels,
-        causes,
-        explanation.counts.as_slice(),
-    )?;
+    push_entries(alloc, &mut text, explanation, labels, entries)?;
+    push_causes(alloc, &mut text, labels, causes)?;
     push_failures(alloc, &mut text, trace, labels, failures)?;
     push_losses(alloc, &mut text, trace, labels, lost)?;
     push_drops(alloc, &mut text, trace, labels, dropped)?;
@@ -93,45 +90,26 @@ fn push_summary(
 ) -> Result<(), OutOfMemory>
     ensures { OnOk result (text.new.items ≡ text.old.items ++ summary_line explanation.now choice.now counts.now lacks.now) }
 {
-    let more = more_value(alloc, explanation)?;
-    let value = summary_value(alloc, counts, explanation.limit, choice, more, lacks)?;
+    let more = more_value(alloc, explanation, choice)?;
+    let limit = explanation.limit;
+    let verdict = explanation.entries.verdict;
+    let value = summary_value(alloc, counts, limit, choice, more, lacks, verdict)?;
     push_value(alloc, text, &value)
 }
 
-// Adds the causes of failed assertions, with what is counted inside each.
+// Adds the causes of failed assertions.
 fn push_causes(
     alloc: Global,
     text: &mut Vec<u8>,
     labels: &Labels,
     groups: &[Group<FailureKey>],
-    counts: &[CauseCounts],
 ) -> Result<(), OutOfMemory>
-    ensures { OnOk result (text.new.items ≡ text.old.items ++ cause_lines labels.now groups.now counts.now (length groups.now)) }
+    ensures { OnOk result (text.new.items ≡ text.old.items ++ flat_map (cause_line labels.now) groups.now) }
 {
-    for index in 0..groups.len() {
-        push_cause_at(alloc, text, labels, groups, counts, index)?;
+    for group in groups {
+        push_cause(alloc, text, labels, group)?;
     }
     Ok(())
-}
-
-// Adds the cause at this place, if it has counts.
-fn push_cause_at(
-    alloc: Global,
-    text: &mut Vec<u8>,
-    labels: &Labels,
-    groups: &[Group<FailureKey>],
-    counts: &[CauseCounts],
-    index: usize,
-) -> Result<(), OutOfMemory>
-    ensures { OnOk result (text.new.items ≡ text.old.items ++ cause_line_of labels.now (slice_get groups.now index) (slice_get counts.now index)) }
-{
-    let Some(group) = groups.get(index) else {
-        return Ok(());
-    };
-    let Some(inside) = counts.get(index) else {
-        return Ok(());
-    };
-    push_cause(alloc, text, labels, group, inside)
 }
 
 // Adds the cause, with the failed assertions that have it.
@@ -140,11 +118,10 @@ fn push_cause(
     text: &mut Vec<u8>,
     labels: &Labels,
     group: &Group<FailureKey>,
-    inside: &CauseCounts,
 ) -> Result<(), OutOfMemory>
-    ensures { OnOk result (text.new.items ≡ text.old.items ++ cause_line labels.now group.now inside.now) }
+    ensures { OnOk result (text.new.items ≡ text.old.items ++ cause_line labels.now group.now) }
 {
-    let value = cause_group_value(alloc, labels, group, inside)?;
+    let value = cause_group_value(alloc, labels, group)?;
     push_value(alloc, text, &value)
 }
 

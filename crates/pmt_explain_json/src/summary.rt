@@ -9,14 +9,16 @@ ghost use Rattle.pmt_explain_json.specs.Lines.{asked_data, byte_range_data, more
 use crate::lacking::{Lack, lacks_value};
 use crate::objects::{object_made, object_value};
 use crate::parts::count_or_null;
+use crate::weighed::{told_entries, verdict_name};
 use crate::words::address_text;
 use pmt_asked::{ByteRange, Choice, Kind};
+use pmt_entries::Verdict;
 use pmt_explanation::{Explanation, Summary, per_cent};
 use pmt_model::OutOfMemory;
 use serde_json::Value;
 use std::alloc::Global;
 
-// The counts; `more` tells how many entries of each kind are not shown, `limit` how many may be, and `lacks` what the trace lacks.
+// The counts and the verdict; `more` tells how many entries of each kind are not shown, `limit` how many may be, and `lacks` what the trace lacks.
 pub(crate) fn summary_value(
     alloc: Global,
     summary: &Summary,
@@ -24,12 +26,14 @@ pub(crate) fn summary_value(
     choice: &Choice,
     more: Value,
     lacks: &[Lack],
+    verdict: Verdict,
 ) -> Result<Value, OutOfMemory>
-    ensures { IfOk result (λ v. view v ≡ summary_data summary.now limit choice.now (view more) lacks.now) }
+    ensures { IfOk result (λ v. view v ≡ summary_data summary.now limit choice.now (view more) lacks.now verdict) }
 {
     let asked = asked_value(alloc, choice);
     let kind = Value::try_from_str(alloc, "summary");
     let lacks = lacks_value(alloc, lacks);
+    let verdict = Value::try_from_str(alloc, verdict_name(verdict));
     let of_fences = per_cent(summary.fences_dropped, summary.fences);
     let of_flushes = per_cent(summary.flushes_dropped, summary.flushes);
     let fields = vec![in alloc;
@@ -57,16 +61,21 @@ pub(crate) fn summary_value(
         ("limit", Ok(Value::from(limit))),
         ("more", Ok(more)),
         ("never_persisted", Ok(Value::from(summary.never_persisted))),
-        ("schema", Ok(Value::from(3u64))),
+        ("schema", Ok(Value::from(4u64))),
         ("stores", Ok(Value::from(summary.stores))),
         ("threads", Ok(Value::from(summary.threads))),
+        ("verdict", verdict),
     ]?;
     object_made(alloc, fields)
 }
 
 // How many entries of each kind are not shown.
-pub(crate) fn more_value(alloc: Global, explanation: &Explanation) -> Result<Value, OutOfMemory>
-    ensures { IfOk result (λ v. view v ≡ more_data explanation.now) }
+pub(crate) fn more_value(
+    alloc: Global,
+    explanation: &Explanation,
+    choice: &Choice,
+) -> Result<Value, OutOfMemory>
+    ensures { IfOk result (λ v. view v ≡ more_data explanation.now choice.now) }
 {
     let limit = explanation.limit;
     let fields = vec![in alloc;
@@ -79,16 +88,20 @@ pub(crate) fn more_value(alloc: Global, explanation: &Explanation) -> Result<Val
             Value::from(explanation.asked_dropped.len().saturating_sub(limit))
         ),
         (
+            "entry",
+            Value::from(
+                told_entries(explanation, choice)
+                    .len()
+                    .saturating_sub(limit)
+            )
+        ),
+        (
             "failure",
             Value::from(explanation.causes.len().saturating_sub(limit))
         ),
         (
             "hint",
-            Value::from(explanation.hints.len().saturating_sub(limit))
-        ),
-        (
-            "label",
-            Value::from(explanation.labelled.len().saturating_sub(limit))
+            Value::from(explanation.asked_hints.len().saturating_sub(limit))
         ),
         (
             "late",
@@ -109,10 +122,6 @@ pub(crate) fn more_value(alloc: Global, explanation: &Explanation) -> Result<Val
         (
             "place",
             Value::from(explanation.places.len().saturating_sub(limit))
-        ),
-        (
-            "thread",
-            Value::from(explanation.threads.len().saturating_sub(limit))
         ),
         (
             "unwritten",

@@ -1,19 +1,24 @@
 //! What `pmtrim explain` writes of an explanation as a text for people.
 #![tactic(auto)]
 
-mod answer;
-mod dropped;
-mod ignored;
-mod other_threads;
-mod overwritten;
-mod overwritten_places;
-mod people;
-mod summary;
-mod tables;
-mod unknown;
-mod unwritten;
-mod wanted;
+mod asked_rows;
+mod closing;
+mod contrast;
+mod covered;
+mod entries;
+mod failures;
+mod hints;
+mod in_full;
+mod left;
+mod loss_story;
+mod losses;
+mod meant;
+mod memory;
+mod only;
+mod partners;
+mod screen;
+mod small;
+mod verdict;
 
-pub use crate::people::text;
-pub use crate::wanted::source_places;
+pub use crate::screen::{source_places, text};
 pub use pmt_telling::Screen;

@@ -1,17 +1,15 @@
 -- Findings in groups.
-use Rattle.std.proofs.Common.{◌≡◌, ℕ, zero, suc, inl, inr, List, [], ◌∷◌, length, take, map, Option, slice_index, refl, sym, ap, subst, ◌∙◌, arith}
+use Rattle.std.proofs.Common.{◌≡◌, ℕ, inl, inr, List, [], ◌∷◌, length, take, map, Option, slice_index, refl, sym, ap, subst, ◌∙◌, arith}
 use Rattle.std.specs.List.{All, AllByRecursion, slice_index_or}
 use Rattle.std.proofs.lemmas.List.Sorted.{All-permutation, IsPermutation-refl}
 use Rattle.std.proofs.lemmas.Option.{none-some, same_Some}
 use Rattle.pmt_model.specs.Traces.{Recording}
 use Rattle.pmt_explain.specs.Grouping.{Picks, AreGroups}
-use Rattle.pmt_causes.specs.declared.details.CauseCounts.{CauseCounts}
 use Rattle.pmt_causes.specs.declared.failure_keys.FailureKey.{FailureKey}
 use Rattle.pmt_causes.specs.declared.grouping.Group.{Group}
 use Rattle.pmt_causes.specs.declared.grouping.Keyed.{Keyed}
 use Rattle.pmt_causes.specs.FailureKeys.{AreFailureGroups, IsKeyed}
 use Rattle.pmt_causes.specs.Groups.{AreGrouped, IsIn, Tells, first_in}
-use Rattle.pmt_causes.specs.Inside.{AreInside}
 use Rattle.pmt_causes.proofs.KeyLemmas.{keyed-none}
 use Rattle.pmt_causes.proofs.MemberLemmas.{each-map, from-each, picks-each, to-each}
 use Rattle.pmt_explanation.specs.Causing.{first_members}
@@ -56,17 +54,6 @@ pub causes-none : (T : Recording) (labels : List (Option ℕ)) (numbers : List �
 causes-none T labels numbers groups none is =
     subst (λ (ns : List ℕ). AreFailureGroups T labels ns groups) (sym (no-numbers numbers none))
     (subst (λ (gs : List (Group FailureKey)). AreFailureGroups T labels [] gs) (sym is) ([], keyed-none T labels, grouped-none))
-
-take-nothing : {X : Type 0} (k : ℕ) (xs : List X) → xs ≡ [] → take k xs ≡ []
-take-nothing zero xs none = refl
-take-nothing {X = X} (suc k) xs none = ap (λ (ys : List X). take (suc k) ys) none
-
--- nothing is counted where nothing fails
-pub inside-none : (T : Recording) (frames whole : List (Option ℕ)) (limit : ℕ) (groups : List (Group FailureKey)) (counts : List CauseCounts) → groups ≡ [] → counts ≡ [] →
-    AreInside T frames whole (take limit groups) counts
-inside-none T frames whole limit groups counts no_group no_count =
-    subst (λ gs. AreInside T frames whole gs counts) (sym (take-nothing limit groups no_group))
-    (subst (λ cs. AreInside T frames whole [] cs) (sym no_count) (record { size = refl; each = λ n g c at here. absurd (none-some g at) }))
 
 item-fails : (T : Recording) (labels : List (Option ℕ)) (x : Keyed FailureKey) → IsKeyed T labels x → Fails T x.number
 item-fails T labels x h = failure-fails T x.number h.failure h.fails

@@ -8,6 +8,7 @@ use Rattle.pmt_asked.specs.declared.choosing.Kind.{Kind}
 use Rattle.pmt_asked.specs.declared.choosing.Kind.TheVariants as kinds
 use Rattle.pmt_asked.specs.declared.labels.Labels.{Labels}
 use Rattle.pmt_failures.specs.declared.unwritten.Unwritten.{Unwritten}
+use Rattle.pmt_hints.specs.declared.hint.Hint.{Hint}
 use Rattle.pmt_asked.specs.Choosing.{is_asked_for}
 
 abbrev pub asked_numbers : Recording → Labels → Choice → Kind → List ℕ → List ℕ
@@ -25,3 +26,7 @@ asked_pairs T labels c pairs = filter (is_pair_asked T labels c) pairs
 
 abbrev pub asked_unwritten : Recording → Labels → Choice → List Unwritten → List Unwritten
 asked_unwritten T labels c found = filter (λ (u : Unwritten). is_asked_for T labels c kinds.Unwritten u.event) found
+
+-- The first event of the hint is asked for.
+abbrev pub asked_hints : Recording → Labels → Choice → List Hint → List Hint
+asked_hints T labels c hints = filter (λ (h : Hint). is_asked_for T labels c kinds.Hint h.first) hints

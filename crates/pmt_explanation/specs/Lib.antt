@@ -7,4 +7,5 @@ pub mod Framing
 pub mod Hinting
 pub mod Losing
 pub mod Numbering
+pub mod Status
 pub mod Summing

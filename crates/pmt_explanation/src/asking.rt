@@ -1,6 +1,6 @@
 //! The findings that are asked for.
 ghost use Rattle.std.specs.Prelude.{◌≡◌, IfOk};
-ghost use Rattle.pmt_explanation.specs.Asking.{asked_dropped, asked_numbers as numbers_asked, asked_pairs as pairs_asked, asked_unwritten, is_pair_asked as pair_asked};
+ghost use Rattle.pmt_explanation.specs.Asking.{asked_dropped, asked_numbers as numbers_asked, asked_hints as hints_asked, asked_pairs as pairs_asked, asked_unwritten, is_pair_asked as pair_asked};
 ghost use Rattle.pmt_explanation.specs.Causing.{asked_items};
 ghost use Rattle.pmt_asked.specs.Choosing.{is_asked_for as asked_for};
 ghost use Rattle.pmt_asked.specs.declared.choosing.Kind.TheVariants.{Late};
@@ -10,6 +10,7 @@ use pmt_causes::{Keyed, LateSpot};
 use pmt_dropping::Dropped;
 use pmt_explain::Overwriting;
 use pmt_failures::Unwritten;
+use pmt_hints::Hint;
 use pmt_model::{OutOfMemory, Trace};
 use std::alloc::Global;
 
@@ -82,6 +83,23 @@ pub(crate) fn asked_unwrittens(
         .iter()
         .copied()
         .filter(|entry| is_asked_for(trace, labels, choice, Kind::Unwritten, entry.event))
+        .collect(alloc)
+}
+
+// Those of the hints that are asked for by their first event, in the same order.
+pub(crate) fn asked_hints(
+    alloc: Global,
+    trace: &Trace,
+    labels: &Labels,
+    choice: &Choice,
+    hints: &[Hint],
+) -> Result<Vec<Hint>, OutOfMemory>
+    ensures { IfOk result (λ asked. asked.items ≡ hints_asked trace.now labels.now choice.now hints.now) }
+{
+    hints
+        .iter()
+        .copied()
+        .filter(|hint| is_asked_for(trace, labels, choice, Kind::Hint, hint.first))
         .collect(alloc)
 }
 

@@ -1,8 +1,7 @@
 //! Findings in groups, by what they have in common.
-ghost use Rattle.std.specs.Prelude.{◌≡◌, IfOk, take};
+ghost use Rattle.std.specs.Prelude.{◌≡◌, IfOk};
 ghost use Rattle.pmt_causes.specs.FailureKeys.{AreFailureGroups};
 ghost use Rattle.pmt_causes.specs.Groups.{first_in};
-ghost use Rattle.pmt_causes.specs.Inside.{AreInside};
 ghost use Rattle.pmt_causes.specs.Late.{AreWaited};
 ghost use Rattle.pmt_asked.specs.Choosing.{is_asked_for as asked_for};
 ghost use Rattle.pmt_explanation.specs.Causing.{AreAskedLate, first_members as first_members_of};
@@ -10,31 +9,24 @@ ghost use Rattle.pmt_asked.specs.declared.choosing.Kind.TheVariants.{Late};
 
 use crate::asking::keep_asked;
 use pmt_asked::{Choice, Labels};
-use pmt_causes::{Causes, Group, LateSpot, LateStores, failure_groups, groups, late_stores};
+use pmt_causes::{FailureKey, Group, LateSpot, LateStores, failure_groups, groups, late_stores};
 use pmt_explain::SafePlaces;
 use pmt_model::OutOfMemory;
 use std::alloc::Global;
 
-// Those of these events that fail, by cause, with what is counted inside the first ones. The trace is looked at only where there are
-// any.
+// Those of these events that fail, by cause. The trace is looked at only where there are any.
 pub(crate) fn causes_of(
     alloc: Global,
     safe: &SafePlaces<'_>,
-    numbers: &[Option<u64>],
     frames: &[Option<u64>],
     failing: &[u64],
-    limit: usize,
-) -> Result<Causes, OutOfMemory>
-    ensures groups { IfOk result (λ causes. AreFailureGroups safe.now.trace.now frames.now failing.now causes.groups.items) }
-    ensures counts { IfOk result (λ causes. AreInside safe.now.trace.now frames.now numbers.now (take limit causes.groups.items) causes.counts.items) }
+) -> Result<Vec<Group<FailureKey>>, OutOfMemory>
+    ensures { IfOk result (λ groups. AreFailureGroups safe.now.trace.now frames.now failing.now groups.items) }
 {
     if failing.is_empty() {
-        return Ok(Causes {
-            groups: Vec::new(alloc),
-            counts: Vec::new(alloc),
-        });
+        return Ok(Vec::new(alloc));
     }
-    failure_groups(alloc, safe, frames, numbers, failing, limit)
+    failure_groups(alloc, safe, frames, failing)
 }
 
 // The first member of each of these groups.

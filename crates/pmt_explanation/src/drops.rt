@@ -1,10 +1,10 @@
-//! What an explanation has of flushes and fences that are dropped, and what threads and labels have.
+//! What an explanation has of flushes and fences that are dropped.
 ghost use Rattle.std.specs.Prelude.{IfOk};
-ghost use Rattle.pmt_explanation.specs.Finding.{AreDrops, AreRows};
+ghost use Rattle.pmt_explanation.specs.Finding.{AreDrops};
 
 use crate::asking::asked_drops;
 use pmt_asked::{Labels, Options};
-use pmt_causes::{DroppedKey, Group, Row, dropped_groups, label_table, thread_table};
+use pmt_causes::{DroppedKey, Group, dropped_groups};
 use pmt_dropping::Dropped;
 use pmt_model::{OutOfMemory, Trace};
 use std::alloc::Global;
@@ -16,15 +16,6 @@ pub(crate) struct Drops {
     pub(crate) asked: Vec<Dropped>,
     /// These in groups by place, word and reason.
     pub(crate) groups: Vec<Group<DroppedKey>>,
-}
-
-/// What threads and labels have.
-#[derive(Drop)]
-pub(crate) struct Rows {
-    /// What each thread has in the trace.
-    pub(crate) threads: Vec<Row<u8>>,
-    /// What each label has in the trace, by its number.
-    pub(crate) labelled: Vec<Row<u64>>,
 }
 
 // What is told of these, which are dropped in the trace, where its events have these numbers of labels.
@@ -41,18 +32,4 @@ pub(crate) fn drops_of(
     let asked = asked_drops(alloc, trace, labels, &options.choice, dropped)?;
     let groups = dropped_groups(alloc, trace, numbers, asked.as_slice())?;
     Ok(Drops { asked, groups })
-}
-
-// What each thread and each label has in the trace, where these are dropped, and its events have these numbers of labels.
-pub(crate) fn rows_of(
-    alloc: Global,
-    trace: &Trace,
-    dropped: &[Dropped],
-    numbers: &[Option<u64>],
-) -> Result<Rows, OutOfMemory>
-    ensures { IfOk result (AreRows trace.now numbers.now dropped.now) }
-{
-    let threads = thread_table(alloc, trace, dropped)?;
-    let labelled = label_table(alloc, trace, numbers, dropped)?;
-    Ok(Rows { threads, labelled })
 }

@@ -1,18 +1,19 @@
 //! The explanation of a trace.
 ghost use Rattle.std.specs.Prelude.{◌≡◌, IfOk};
-ghost use Rattle.pmt_explanation.specs.Explaining.{AreParts, IsExplanation, has_failed as fails};
+ghost use Rattle.pmt_explanation.specs.Explaining.{AreParts, IsExplanation};
 ghost use Rattle.pmt_asked.specs.declared.options.Options.{Options};
 ghost use Rattle.pmt_asked.specs.declared.labels.Labels.{Labels};
 ghost use Rattle.pmt_explain.specs.Saving.{AreSafePlaces};
 
-use crate::found::{Found, found_of};
+use crate::found::{Begun, Found, found_of};
 use crate::frames::frame_numbers;
 use crate::numbering::label_numbers;
 use crate::risks::{Broken, Lost, Risks};
 use pmt_analysis::Analysis;
 use pmt_asked::{Labels, Options};
-use pmt_causes::{CauseCounts, DroppedKey, FailureKey, Group, LateSpot, LostKey, Row};
+use pmt_causes::{DroppedKey, FailureKey, Group, LateSpot, LostKey};
 use pmt_dropping::Dropped;
+use pmt_entries::Entries;
 use pmt_explain::{LostGroup, OverwrittenGroup, SafePlaces};
 use pmt_failures::{ShownFailure, Unwritten};
 use pmt_fates::PlaceRow;
@@ -40,12 +41,16 @@ pub struct Explanation {
     pub places: Vec<PlaceRow>,
     /// Those call paths of which one fence leaves each store unsafe, though not each of their place: whole labels by their numbers.
     pub left_paths: Vec<PlaceRow>,
-    /// The hints that are asked for, by kind and place.
+    /// The rows of call paths, by whole labels, if a site loses or delays a store, or one fence leaves a part of a site's stores unsafe.
+    pub paths: Vec<PlaceRow>,
+    /// All hints, by kind and place.
     pub hints: Vec<Hint>,
+    /// Those of them that are asked for by their first event.
+    pub asked_hints: Vec<Hint>,
+    /// What is told first, by weight, and the verdict. Failures are the indexes of `causes`.
+    pub entries: Entries,
     /// Those of `asked_failing`, by cause and place.
     pub causes: Vec<Group<FailureKey>>,
-    /// What is counted inside each of the first `limit` causes, in their order.
-    pub counts: Vec<CauseCounts>,
     /// The first failure of each of the first `limit` causes in full, in the order of the causes.
     pub failures: Vec<ShownFailure>,
     /// The stores that are never persisted, by rising event number, without those that are ignored.
@@ -66,10 +71,6 @@ pub struct Explanation {
     pub late: Vec<Group<LateSpot>>,
     /// Of each event, in order, for how many fences of its thread it is left unsafe; 0 of an event that is no store.
     pub waited: Vec<u64>,
-    /// What each thread has in the trace.
-    pub threads: Vec<Row<u8>>,
-    /// What each label has in the trace, by its number.
-    pub labelled: Vec<Row<u64>>,
     /// What is overwritten and asked for, by line, without what is ignored.
     pub overwritten: Vec<OverwrittenGroup>,
     /// How many pairs of an overwritten and an overwriting store are ignored.
@@ -153,13 +154,16 @@ fn explained(analysis: Analysis, limit: usize, parts: Parts) -> Explanation
         found,
     } = parts;
     let Found {
-        firsts,
+        begun,
         drops,
-        rows,
-        hints,
+        told,
         table,
-        risks,
     } = found;
+    let Begun {
+        firsts,
+        risks,
+        early: _,
+    } = begun;
     let Risks { lost, broken } = risks;
     let Lost {
         stores,
@@ -175,7 +179,6 @@ fn explained(analysis: Analysis, limit: usize, parts: Parts) -> Explanation
         label_numbers,
         frames,
         causes: failed.causes,
-        counts: failed.counts,
         failures: failed.shown,
         stores,
         ignored_never_persisted: losses.ignored,
@@ -186,21 +189,14 @@ fn explained(analysis: Analysis, limit: usize, parts: Parts) -> Explanation
         dropped_groups: drops.groups,
         late: firsts.late,
         waited: firsts.waited,
-        threads: rows.threads,
-        labelled: rows.labelled,
         places: table.places,
+        paths: table.paths,
         left_paths: table.left_paths,
-        hints,
+        hints: told.hints,
+        asked_hints: told.asked,
+        entries: told.entries,
         overwritten: overwrites.groups,
         ignored_overwritten: overwrites.ignored,
         unwritten,
     }
-}
-
-/// Whether an assertion fails, or a store that is not ignored is never persisted. Of a trace that was cut the stores are not known to be
-/// lost, and do not count.
-pub fn has_failed(explanation: &Explanation, is_cut: bool) -> bool
-    ensures { result ≡ fails explanation.now is_cut }
-{
-    !explanation.failing.is_empty() || (!is_cut && !explanation.stores.is_empty())
 }

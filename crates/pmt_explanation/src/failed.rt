@@ -1,7 +1,6 @@
 //! What an explanation has of assertions that fail.
 ghost use Rattle.std.specs.Prelude.{◌≡◌, take, IfOk};
 ghost use Rattle.pmt_causes.specs.FailureKeys.{AreFailureGroups};
-ghost use Rattle.pmt_causes.specs.Inside.{AreInside};
 ghost use Rattle.pmt_explanation.specs.Asking.{asked_numbers as numbers_asked};
 ghost use Rattle.pmt_explanation.specs.Causing.{first_members as firsts_of};
 ghost use Rattle.pmt_failures.specs.Failing.{failing_events as failing_of};
@@ -11,7 +10,7 @@ ghost use Rattle.pmt_asked.specs.declared.choosing.Kind.TheVariants.{Failure};
 use crate::asking::asked_numbers;
 use crate::causing::{causes_of, first_members};
 use pmt_asked::{Kind, Labels, Options};
-use pmt_causes::{CauseCounts, Causes, FailureKey, Group, first};
+use pmt_causes::{FailureKey, Group, first};
 use pmt_explain::SafePlaces;
 use pmt_failures::{ShownFailure, failing_events, shown_failures};
 use pmt_model::{OutOfMemory, Verdict};
@@ -26,27 +25,23 @@ pub(crate) struct Failed {
     pub(crate) asked: Vec<u64>,
     /// Those by cause.
     pub(crate) causes: Vec<Group<FailureKey>>,
-    /// What is counted inside the first of them, as many as the limit allows.
-    pub(crate) counts: Vec<CauseCounts>,
     /// The first one of each cause in full, as many as the limit allows.
     pub(crate) shown: Vec<ShownFailure>,
 }
 
-// The assertions that fail by these verdicts of the trace of these places, where the events have these numbers of labels and of
+// The assertions that fail by these verdicts of the trace of these places, where the events have these numbers of
 // innermost frames.
 pub(crate) fn failed_of(
     alloc: Global,
     safe: &SafePlaces<'_>,
     verdicts: &[Verdict],
     labels: &Labels,
-    numbers: &[Option<u64>],
     frames: &[Option<u64>],
     options: &Options,
 ) -> Result<Failed, OutOfMemory>
     ensures failing { IfOk result (λ f. f.failing.items ≡ failing_of verdicts.now) }
     ensures asked { IfOk result (λ f. f.asked.items ≡ numbers_asked safe.now.trace.now labels.now options.now.choice Failure f.failing.items) }
     ensures causes { IfOk result (λ f. AreFailureGroups safe.now.trace.now frames.now f.asked.items f.causes.items) }
-    ensures counts { IfOk result (λ f. AreInside safe.now.trace.now frames.now numbers.now (take options.now.limit f.causes.items) f.counts.items) }
     ensures shown { IfOk result (λ f. AreShown safe.now.trace.now (take options.now.limit (firsts_of f.causes.items)) f.shown.items) }
 {
     let failing = failing_events(alloc, verdicts)?;
@@ -58,17 +53,7 @@ pub(crate) fn failed_of(
         Kind::Failure,
         failing.as_slice(),
     )?;
-    let Causes {
-        groups: causes,
-        counts,
-    } = causes_of(
-        alloc,
-        safe,
-        numbers,
-        frames,
-        asked.as_slice(),
-        options.limit,
-    )?;
+    let causes = causes_of(alloc, safe, frames, asked.as_slice())?;
     let firsts = first_members(alloc, causes.as_slice())?;
     let few = first(firsts.as_slice(), options.limit);
     let shown = shown_failures(alloc, safe, few)?;
@@ -76,7 +61,6 @@ pub(crate) fn failed_of(
         failing,
         asked,
         causes,
-        counts,
         shown,
     })
 }

@@ -1,15 +1,17 @@
 //! What is found in an analysed trace, by up to four threads side by side: first what the analysis alone tells, and then what needs that.
-ghost use Rattle.std.specs.Prelude.{◌≡◌, IfOk};
+ghost use Rattle.std.specs.Prelude.{◌≡◌, ℕ, IfOk, List, Option};
 ghost use Rattle.std.specs.Thread.{IsSync};
-ghost use Rattle.pmt_explanation.specs.Finding.{AreBegun, AreBroken, AreDrops, AreFirsts, AreFound, AreLost, ArePlacesOf, AreRows};
-ghost use Rattle.pmt_explanation.specs.Hinting.{AreEarly, AreLate};
+ghost use Rattle.pmt_explanation.specs.Finding.{AreBegun, AreBroken, AreDrops, AreFirsts, AreFound, AreLost, ArePlacesOf, AreTold};
+ghost use Rattle.pmt_explanation.specs.Hinting.{AreEarly, AreHints, AreLate};
 
-use crate::drops::{Drops, Rows, drops_of, rows_of};
+use crate::asking::asked_hints;
+use crate::drops::{Drops, drops_of};
 use crate::firsts::{Firsts, firsts_of};
 use crate::hinting::{EarlyHints, LateHints, early_hints, hints_in_order, late_hints};
 use crate::risks::{Broken, Lost, Risks, broken_of, lost_of};
 use pmt_analysis::Analysis;
 use pmt_asked::{Labels, Options};
+use pmt_entries::{Entries, entries_of};
 use pmt_explain::SafePlaces;
 use pmt_fates::{PlaceTable, place_table};
 use pmt_hints::Hint;
@@ -20,18 +22,25 @@ use std::thread::{Threads, join_mut};
 /// What is found in a trace.
 #[derive(Drop)]
 pub(crate) struct Found {
-    /// What others need.
-    pub(crate) firsts: Firsts,
+    /// What is found by the analysis alone.
+    pub(crate) begun: Begun,
     /// What is told of flushes and fences that are dropped.
     pub(crate) drops: Drops,
-    /// What threads and labels have.
-    pub(crate) rows: Rows,
-    /// The hints that are asked for.
-    pub(crate) hints: Vec<Hint>,
+    /// Hints, and what is told first.
+    pub(crate) told: Told,
     /// What each place has.
     pub(crate) table: PlaceTable,
-    /// What a crash may lose.
-    pub(crate) risks: Risks,
+}
+
+/// Hints, and what is told first.
+#[derive(Drop)]
+pub(crate) struct Told {
+    /// All hints.
+    pub(crate) hints: Vec<Hint>,
+    /// Those that are asked for.
+    pub(crate) asked: Vec<Hint>,
+    /// The entries.
+    pub(crate) entries: Entries,
 }
 
 /// What is found by the analysis alone.
@@ -50,9 +59,6 @@ type Missed = (Result<Lost, OutOfMemory>, Result<EarlyHints, OutOfMemory>);
 
 // These, and what fails or is overwritten.
 type Risked = (Missed, Result<Broken, OutOfMemory>);
-
-// What is told of flushes, and what threads and labels have.
-type Listed = (Result<Drops, OutOfMemory>, Result<Rows, OutOfMemory>);
 
 // What each place has, and the other hints.
 type Placed = (
@@ -75,19 +81,17 @@ pub(crate) fn found_of<R: Threads + Sync>(
     requires { safe.now.trace.now ≡ analysis.now.trace }
     ensures { IfOk result (AreFound analysis.now labels.now numbers.now frames.now options.now) }
 {
-    let found = begun_of(rt, alloc, analysis, safe, labels, numbers, frames, options)?;
-    let begun = &found;
-    let ((drops, rows), (table, late)) = join_mut(
+    let first = begun_of(rt, alloc, analysis, safe, labels, numbers, frames, options)?;
+    let begun = &first;
+    let (drops, (table, late)) = join_mut(
         rt,
-        &mut || -> Listed
-            requires { IsSync R.row }
-            ensures drops { IfOk result.0 (AreDrops analysis.entry.now.trace labels.entry.now numbers.entry.now options.entry.now begun.entry.now.firsts.dropped.items) }
-            ensures rows { IfOk result.1 (AreRows analysis.entry.now.trace numbers.entry.now begun.entry.now.firsts.dropped.items) }
-        { listed_of(rt, alloc, analysis, labels, numbers, options, begun) },
+        &mut || -> Result<Drops, OutOfMemory>
+            ensures { IfOk result (AreDrops analysis.entry.now.trace labels.entry.now numbers.entry.now options.entry.now begun.entry.now.firsts.dropped.items) }
+        { listed_of(alloc, analysis, labels, numbers, options, begun) },
         &mut || -> Placed
             requires { IsSync R.row × (safe.now.trace.now ≡ analysis.now.trace) × AreBegun analysis.now labels.now numbers.now frames.now options.now begun.now }
             ensures table { IfOk result.0 (ArePlacesOf analysis.entry.now.trace numbers.entry.now frames.entry.now begun.entry.now.risks.lost.stores.items begun.entry.now.firsts.dropped.items) }
-            ensures late { IfOk result.1 (AreLate analysis.entry.now.trace labels.entry.now frames.entry.now options.entry.now.choice) }
+            ensures late { IfOk result.1 (AreLate analysis.entry.now.trace frames.entry.now) }
         {
             placed_of(
                 rt, alloc, analysis, safe, labels, numbers, frames, options, begun,
@@ -95,35 +99,51 @@ pub(crate) fn found_of<R: Threads + Sync>(
         },
     );
     let drops = drops?;
-    let rows = rows?;
     let table = table?;
     let late = late?;
     let hints = hints_in_order(alloc, &begun.early, &late)?;
-    Ok(joined(found, drops, rows, hints, table))
+    let told = told_of(
+        alloc, analysis, labels, frames, options, begun, &table, hints,
+    )?;
+    Ok(Found {
+        begun: first,
+        drops,
+        told,
+        table,
+    })
 }
 
-// All of it.
-fn joined(begun: Begun, drops: Drops, rows: Rows, hints: Vec<Hint>, table: PlaceTable) -> Found
-    ensures firsts { result.firsts ≡ begun.firsts }
-    ensures drops { result.drops ≡ drops }
-    ensures rows { result.rows ≡ rows }
-    ensures hints { result.hints ≡ hints }
-    ensures table { result.table ≡ table }
-    ensures risks { result.risks ≡ begun.risks }
+// Of these hints those that are asked for, and the entries, where these are the rows of places, and this was found by the analysis alone.
+fn told_of(
+    alloc: Global,
+    analysis: &Analysis,
+    labels: &Labels,
+    frames: &[Option<u64>],
+    options: &Options,
+    begun: &Begun,
+    table: &PlaceTable,
+    hints: Vec<Hint>,
+) -> Result<Told, OutOfMemory>
+    ensures { (numbers : List (Option ℕ)) → AreHints analysis.now.trace frames.now numbers hints.items → IfOk result (AreTold analysis.now labels.now numbers frames.now options.now begun.now table.now) }
 {
-    let Begun {
-        firsts,
-        risks,
-        early: _,
-    } = begun;
-    Found {
-        firsts,
-        drops,
-        rows,
-        hints,
+    let trace = analysis.trace();
+    let asked = asked_hints(alloc, trace, labels, &options.choice, hints.as_slice())?;
+    let entries = entries_of(
+        alloc,
+        trace,
+        analysis.verdicts(),
+        begun.risks.broken.failed.causes.len(),
+        frames,
         table,
-        risks,
-    }
+        hints.as_slice(),
+        begun.risks.lost.stores.as_slice(),
+        begun.firsts.waited.as_slice(),
+    )?;
+    Ok(Told {
+        hints,
+        asked,
+        entries,
+    })
 }
 
 // What the analysis alone tells.
@@ -149,8 +169,8 @@ fn begun_of<R: Threads + Sync>(
         &mut || -> Risked
             requires { IsSync R.row × (safe.now.trace.now ≡ analysis.now.trace) }
             ensures lost { IfOk result.0.0 (AreLost analysis.entry.now labels.entry.now frames.entry.now options.entry.now) }
-            ensures early { IfOk result.0.1 (AreEarly analysis.entry.now.trace labels.entry.now frames.entry.now numbers.entry.now options.entry.now.choice) }
-            ensures broken { IfOk result.1 (AreBroken analysis.entry.now labels.entry.now numbers.entry.now frames.entry.now options.entry.now) }
+            ensures early { IfOk result.0.1 (AreEarly analysis.entry.now.trace frames.entry.now numbers.entry.now) }
+            ensures broken { IfOk result.1 (AreBroken analysis.entry.now labels.entry.now frames.entry.now options.entry.now) }
         { risked_of(rt, alloc, analysis, safe, labels, numbers, frames, options) },
     );
     let firsts = firsts?;
@@ -177,13 +197,13 @@ fn risked_of<R: Threads + Sync>(
 ) -> Risked
     requires { safe.now.trace.now ≡ analysis.now.trace }
     ensures lost { IfOk result.0.0 (AreLost analysis.now labels.now frames.now options.now) }
-    ensures early { IfOk result.0.1 (AreEarly analysis.now.trace labels.now frames.now numbers.now options.now.choice) }
-    ensures broken { IfOk result.1 (AreBroken analysis.now labels.now numbers.now frames.now options.now) }
+    ensures early { IfOk result.0.1 (AreEarly analysis.now.trace frames.now numbers.now) }
+    ensures broken { IfOk result.1 (AreBroken analysis.now labels.now frames.now options.now) }
 {
     join_mut(
         rt,
         &mut || missed_of(alloc, analysis, labels, numbers, frames, options),
-        &mut || broken_of(alloc, analysis, safe, labels, numbers, frames, options),
+        &mut || broken_of(alloc, analysis, safe, labels, frames, options),
     )
 }
 
@@ -197,33 +217,26 @@ fn missed_of(
     options: &Options,
 ) -> Missed
     ensures lost { IfOk result.0 (AreLost analysis.now labels.now frames.now options.now) }
-    ensures early { IfOk result.1 (AreEarly analysis.now.trace labels.now frames.now numbers.now options.now.choice) }
+    ensures early { IfOk result.1 (AreEarly analysis.now.trace frames.now numbers.now) }
 {
     let lost = lost_of(alloc, analysis, labels, frames, options);
-    let early = early_hints(alloc, analysis, labels, frames, numbers, &options.choice);
+    let early = early_hints(alloc, analysis, frames, numbers);
     (lost, early)
 }
 
-// What is told of dropped flushes and fences, beside what threads and labels have.
-fn listed_of<R: Threads + Sync>(
-    rt: &R,
+// What is told of dropped flushes and fences.
+fn listed_of(
     alloc: Global,
     analysis: &Analysis,
     labels: &Labels,
     numbers: &[Option<u64>],
     options: &Options,
     begun: &Begun,
-) -> Listed
-    ensures drops { IfOk result.0 (AreDrops analysis.now.trace labels.now numbers.now options.now begun.now.firsts.dropped.items) }
-    ensures rows { IfOk result.1 (AreRows analysis.now.trace numbers.now begun.now.firsts.dropped.items) }
+) -> Result<Drops, OutOfMemory>
+    ensures { IfOk result (AreDrops analysis.now.trace labels.now numbers.now options.now begun.now.firsts.dropped.items) }
 {
-    let trace = analysis.trace();
     let dropped = begun.firsts.dropped.as_slice();
-    join_mut(
-        rt,
-        &mut || drops_of(alloc, trace, dropped, labels, numbers, options),
-        &mut || rows_of(alloc, trace, dropped, numbers),
-    )
+    drops_of(alloc, analysis.trace(), dropped, labels, numbers, options)
 }
 
 // What each place has, beside the other hints.
@@ -241,15 +254,14 @@ fn placed_of<R: Threads + Sync>(
     requires same { safe.now.trace.now ≡ analysis.now.trace }
     requires begun { AreBegun analysis.now labels.now numbers.now frames.now options.now begun.now }
     ensures table { IfOk result.0 (ArePlacesOf analysis.now.trace numbers.now frames.now begun.now.risks.lost.stores.items begun.now.firsts.dropped.items) }
-    ensures late { IfOk result.1 (AreLate analysis.now.trace labels.now frames.now options.now.choice) }
+    ensures late { IfOk result.1 (AreLate analysis.now.trace frames.now) }
 {
     let dropped = begun.firsts.dropped.as_slice();
     let waited = begun.firsts.waited.as_slice();
     let stores = begun.risks.lost.stores.as_slice();
-    let choice = &options.choice;
     join_mut(
         rt,
         &mut || place_table(alloc, safe, waited, frames, numbers, stores, dropped),
-        &mut || late_hints(alloc, safe, waited, labels, frames, choice),
+        &mut || late_hints(alloc, safe, waited, frames),
     )
 }

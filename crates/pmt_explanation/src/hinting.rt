@@ -1,21 +1,15 @@
-//! The hints that are asked for.
+//! All hints of a trace.
 ghost use Rattle.std.specs.Prelude.{◌≡◌, ◌++◌, IfOk};
 ghost use Rattle.pmt_causes.specs.Late.{AreWaited};
-ghost use Rattle.pmt_hints.specs.Placing.{AreHintsOf, ArePathHintsOf};
-ghost use Rattle.pmt_explanation.specs.Asking.{asked_numbers as numbers_asked};
-ghost use Rattle.pmt_explanation.specs.Hinting.{AreEarly, AreEarlyHints, AreLate, AreLateHints, AreOpenHints};
-ghost use Rattle.pmt_asked.specs.Choosing.{is_kind_chosen};
-ghost use Rattle.pmt_asked.specs.declared.choosing.Kind.TheVariants as kinds;
+ghost use Rattle.pmt_explanation.specs.Hinting.{AreEarly, AreLate, AreOpenHints};
 
-use crate::asking::asked_numbers;
 use pmt_analysis::Analysis;
-use pmt_asked::{Choice, Kind, Labels, is_asked};
 use pmt_explain::SafePlaces;
 use pmt_hints::{
     Hint, HintKind, hints_of, one_line_short, path_hints_of, split_words, stored_after_flush,
-    told_on_paths, told_open,
+    stored_after_mark, told_on_paths, told_open,
 };
-use pmt_model::{OutOfMemory, Selection, Trace};
+use pmt_model::{OutOfMemory, Trace};
 use std::alloc::Global;
 
 /// The hints that are found by the trace and what is kept of it alone.
@@ -23,6 +17,8 @@ use std::alloc::Global;
 pub(crate) struct EarlyHints {
     /// Those of words in two lines.
     pub(crate) words: Vec<Hint>,
+    /// Those of stores after a mark.
+    pub(crate) marks: Vec<Hint>,
     /// Those of flushes that are open at a store.
     pub(crate) flushes: Vec<Hint>,
 }
@@ -36,94 +32,51 @@ pub(crate) struct LateHints {
     pub(crate) runs: Vec<Hint>,
 }
 
-// The first hints of the trace that was analysed, if its events have these numbers of innermost frames and of whole labels. The trace is
-// looked at only if hints are asked for.
+// The first hints of the trace that was analysed, if its events have these numbers of innermost frames and of whole labels.
 pub(crate) fn early_hints(
     alloc: Global,
     analysis: &Analysis,
-    labels: &Labels,
     frames: &[Option<u64>],
     paths: &[Option<u64>],
-    choice: &Choice,
 ) -> Result<EarlyHints, OutOfMemory>
-    ensures { IfOk result (AreEarly analysis.now.trace labels.now frames.now paths.now choice.now) }
-{
-    if !are_asked(choice) {
-        return Ok(EarlyHints {
-            words: Vec::new(alloc),
-            flushes: Vec::new(alloc),
-        });
-    }
-    all_early(alloc, analysis, labels, frames, paths, choice)
-}
-
-// Whether hints are asked for.
-fn are_asked(choice: &Choice) -> bool
-    ensures { result ≡ is_kind_chosen choice.now kinds.Hint }
-{
-    is_asked(choice, Kind::Hint)
-}
-
-// All of them.
-fn all_early(
-    alloc: Global,
-    analysis: &Analysis,
-    labels: &Labels,
-    frames: &[Option<u64>],
-    paths: &[Option<u64>],
-    choice: &Choice,
-) -> Result<EarlyHints, OutOfMemory>
-    ensures { IfOk result (AreEarlyHints analysis.now.trace labels.now frames.now paths.now choice.now) }
+    ensures { IfOk result (AreEarly analysis.now.trace frames.now paths.now) }
 {
     let trace = analysis.trace();
     let split = split_words(alloc, trace, frames)?;
-    let kind = HintKind::SplitWord;
-    let words = hints_at(alloc, trace, labels, frames, choice, kind, &split)?;
-    let flushes = open_hints(alloc, analysis, trace, labels, frames, paths, choice)?;
-    Ok(EarlyHints { words, flushes })
+    let words = hints_of(alloc, trace, frames, HintKind::SplitWord, split.numbers())?;
+    let after = stored_after_mark(alloc, trace, analysis.verdicts(), frames)?;
+    let marks = hints_of(
+        alloc,
+        trace,
+        frames,
+        HintKind::StoredAfterMark,
+        after.numbers(),
+    )?;
+    let flushes = open_hints(alloc, analysis, trace, frames, paths)?;
+    Ok(EarlyHints {
+        words,
+        marks,
+        flushes,
+    })
 }
 
-// The other hints of the trace of these safe places, if its events wait for so many fences. The trace is looked at only if hints are asked
-// for.
+// The other hints of the trace of these safe places, if its events wait for so many fences.
 pub(crate) fn late_hints(
     alloc: Global,
     safe: &SafePlaces<'_>,
     waited: &[u64],
-    labels: &Labels,
     frames: &[Option<u64>],
-    choice: &Choice,
 ) -> Result<LateHints, OutOfMemory>
     requires { AreWaited safe.now.trace.now waited.now }
-    ensures { IfOk result (AreLate safe.now.trace.now labels.now frames.now choice.now) }
-{
-    if !are_asked(choice) {
-        return Ok(LateHints {
-            stores: Vec::new(alloc),
-            runs: Vec::new(alloc),
-        });
-    }
-    all_late(alloc, safe, waited, labels, frames, choice)
-}
-
-// All of them.
-fn all_late(
-    alloc: Global,
-    safe: &SafePlaces<'_>,
-    waited: &[u64],
-    labels: &Labels,
-    frames: &[Option<u64>],
-    choice: &Choice,
-) -> Result<LateHints, OutOfMemory>
-    requires { AreWaited safe.now.trace.now waited.now }
-    ensures { IfOk result (AreLateHints safe.now.trace.now labels.now frames.now choice.now) }
+    ensures { IfOk result (AreLate safe.now.trace.now frames.now) }
 {
     let trace = safe.trace();
     let after = stored_after_flush(alloc, safe, waited)?;
     let kind = HintKind::StoredAfterFlush;
-    let stores = hints_at(alloc, trace, labels, frames, choice, kind, &after)?;
+    let stores = hints_of(alloc, trace, frames, kind, after.numbers())?;
     let short = one_line_short(alloc, safe, waited, frames)?;
     let kind = HintKind::OneLineShort;
-    let runs = hints_at(alloc, trace, labels, frames, choice, kind, &short)?;
+    let runs = hints_of(alloc, trace, frames, kind, short.numbers())?;
     Ok(LateHints { stores, runs })
 }
 
@@ -133,9 +86,10 @@ pub(crate) fn hints_in_order(
     early: &EarlyHints,
     late: &LateHints,
 ) -> Result<Vec<Hint>, OutOfMemory>
-    ensures { IfOk result (λ hints. hints.items ≡ (early.now.words.items ++ late.now.stores.items) ++ (late.now.runs.items ++ early.now.flushes.items)) }
+    ensures { IfOk result (λ hints. hints.items ≡ ((early.now.words.items ++ late.now.stores.items) ++ early.now.marks.items) ++ (late.now.runs.items ++ early.now.flushes.items)) }
 {
     let mut hints = joined(alloc, early.words.as_slice(), late.stores.as_slice())?;
+    hints.extend_from_slice(early.marks.as_slice())?;
     let more = joined(alloc, late.runs.as_slice(), early.flushes.as_slice())?;
     hints.extend_from_slice(more.as_slice())?;
     Ok(hints)
@@ -156,38 +110,19 @@ fn open_hints(
     alloc: Global,
     analysis: &Analysis,
     trace: &Trace,
-    labels: &Labels,
     frames: &[Option<u64>],
     paths: &[Option<u64>],
-    choice: &Choice,
 ) -> Result<Vec<Hint>, OutOfMemory>
     requires { trace.now ≡ analysis.now.trace }
-    ensures { IfOk result (λ hints. AreOpenHints trace.now labels.now frames.now paths.now choice.now hints.items) }
+    ensures { IfOk result (λ hints. AreOpenHints trace.now frames.now paths.now hints.items) }
 {
     let kept = analysis.selection();
     let verdicts = analysis.verdicts();
     let kind = HintKind::OpenAtStore;
     let unfenced = told_open(alloc, trace, kept, verdicts, frames)?;
-    let mut hints = hints_at(alloc, trace, labels, frames, choice, kind, &unfenced)?;
+    let mut hints = hints_of(alloc, trace, frames, kind, unfenced.numbers())?;
     let partly = told_on_paths(alloc, trace, kept, verdicts, frames, paths)?;
-    let asked = asked_numbers(alloc, trace, labels, choice, Kind::Hint, partly.numbers())?;
-    let more = path_hints_of(alloc, trace, frames, paths, kind, asked.as_slice())?;
+    let more = path_hints_of(alloc, trace, frames, paths, kind, partly.numbers())?;
     hints.extend_from_slice(more.as_slice())?;
     Ok(hints)
-}
-
-// The hints of this kind of those of these events that are asked for.
-fn hints_at(
-    alloc: Global,
-    trace: &Trace,
-    labels: &Labels,
-    frames: &[Option<u64>],
-    choice: &Choice,
-    kind: HintKind,
-    events: &Selection,
-) -> Result<Vec<Hint>, OutOfMemory>
-    ensures { IfOk result (λ hints. AreHintsOf trace.now frames.now kind (numbers_asked trace.now labels.now choice.now kinds.Hint events.now) hints.items) }
-{
-    let asked = asked_numbers(alloc, trace, labels, choice, Kind::Hint, events.numbers())?;
-    hints_of(alloc, trace, frames, kind, asked.as_slice())
 }

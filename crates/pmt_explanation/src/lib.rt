@@ -18,10 +18,12 @@ mod losses;
 mod numbering;
 mod overwrites;
 mod risks;
+pub mod status;
 pub mod summing;
 
 pub use crate::causing::first_of;
 pub use crate::counting::per_cent;
-pub use crate::explaining::{Explanation, explanation_of, has_failed};
+pub use crate::explaining::{Explanation, explanation_of};
+pub use crate::status::status_of;
 pub use crate::summing::{Summary, summary_of};
 pub use pmt_causes::first;

@@ -69,29 +69,21 @@ pub(crate) fn lost_of(
     })
 }
 
-// The assertions that fail in the trace that was analysed, where its events have these numbers of labels and of innermost frames, and its
-// stores that are overwritten.
+// The assertions that fail in the trace that was analysed, where its events have these numbers of innermost frames, and its stores that
+// are overwritten.
 pub(crate) fn broken_of(
     alloc: Global,
     analysis: &Analysis,
     safe: &SafePlaces<'_>,
     labels: &Labels,
-    numbers: &[Option<u64>],
     frames: &[Option<u64>],
     options: &Options,
 ) -> Result<Broken, OutOfMemory>
     requires { safe.now.trace.now ≡ analysis.now.trace }
-    ensures { IfOk result (AreBroken analysis.now labels.now numbers.now frames.now options.now) }
+    ensures { IfOk result (AreBroken analysis.now labels.now frames.now options.now) }
 {
-    let failed = failed_of(
-        alloc,
-        safe,
-        analysis.verdicts(),
-        labels,
-        numbers,
-        frames,
-        options,
-    )?;
+    let verdicts = analysis.verdicts();
+    let failed = failed_of(alloc, safe, verdicts, labels, frames, options)?;
     let overwrites = overwrites_of(alloc, analysis, labels, options)?;
     Ok(Broken { failed, overwrites })
 }

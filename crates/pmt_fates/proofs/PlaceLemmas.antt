@@ -18,7 +18,7 @@ use Rattle.pmt_causes.specs.declared.grouping.Keyed.{Keyed}
 use Rattle.pmt_causes.specs.Counted.{counted}
 use Rattle.pmt_causes.specs.Groups.{IsIn, Tells}
 use Rattle.pmt_causes.specs.Late.{is_fence}
-use Rattle.pmt_causes.specs.Tables.{is_flush, is_store, op_passes}
+use Rattle.pmt_causes.specs.Ops.{is_flush, is_store, op_passes}
 use Rattle.pmt_causes.proofs.CountedLemmas.{counted-same}
 use Rattle.pmt_fates.specs.declared.fate.Fate.{Fate}
 use Rattle.pmt_fates.specs.declared.fate.Fate.TheVariants as fate

@@ -1,10 +1,11 @@
 -- The rows of all places, with one more event, and the groups that they tell of.
 use Rattle.std.proofs.Common.{◌≡◌, ℕ, zero, suc, ◌-◌, ◌^◌, ◌<◌, ◌≤◌, ◌⊎◌, inl, inr, Bool, true, false, cond, List, [], ◌∷◌, ◌++◌, length, length-append, set, get_or, Option, None, Some, refl, sym, ap, subst, ◌∙◌, arith}
-use Rattle.std.specs.Prelude.{slice_get, slice_index, unwrap_or}
+use Rattle.std.specs.Prelude.{if◌then◌else◌, reverse, slice_get, slice_index, unwrap_or}
 use Rattle.std.specs.List.{find}
 use Rattle.std.specs.Option.{option_map}
 use Rattle.std.proofs.lemmas.Bool.{eq-eqb}
 use Rattle.std.proofs.lemmas.Option.{none-some, same_Some, slice_get-get_or, slice_get-map}
+use Rattle.std.proofs.lemmas.List.{reverse-append}
 use Rattle.std.proofs.lemmas.List.Sums.{count_by-le-length, sum_by_push}
 use Rattle.pmt_model.specs.declared.event.Event.{Event}
 use Rattle.pmt_model.specs.Traces.{Recording, event}
@@ -19,7 +20,7 @@ use Rattle.pmt_fates.specs.declared.fate.Fate.{Fate}
 use Rattle.pmt_fates.specs.declared.fate.Fate.TheVariants as fate
 use Rattle.pmt_fates.specs.declared.place_row.PlaceRow.{PlaceRow}
 use Rattle.pmt_fates.specs.declared.saved_before.SavedBefore.{SavedBefore}
-use Rattle.pmt_fates.specs.Places.{count_in, fate_at, find_in, is_fence_fate, is_flush_fate, is_in_time, is_same, is_store_fate, origin_in, place_items, saved_at}
+use Rattle.pmt_fates.specs.Places.{count_in, fate_at, find_in, find_last_in, is_fence_fate, is_flush_fate, is_in_time, is_missed, is_same, is_store_fate, origin_in, place_items, saved_at}
 use Rattle.pmt_fates.specs.Rows.{Finds, IsThere, IsNew, same_place}
 use Rattle.pmt_fates.specs.Tallies.{AreSmall, else_first, else_saved, more, row_at, with_fate}
 use Rattle.pmt_fates.proofs.PlaceLemmas.{numbers, numbers-more}
@@ -35,6 +36,9 @@ find-more P (x ∷ xs) i = go (P x) (find-more P xs i)
     go : (b : Bool) → else_first (P i) i (find P xs) ≡ find P (xs ++ i ∷ []) → else_first (P i) i (cond b (Some x) (find P xs)) ≡ cond b (Some x) (find P (xs ++ i ∷ []))
     go true later = refl
     go false later = later
+
+last-more : (P : ℕ → Bool) (xs : List ℕ) (i : ℕ) → (if P i then Some i else find P (reverse xs)) ≡ find P (reverse (xs ++ i ∷ []))
+last-more P xs i = sym (ap (find P) (reverse-append xs (i ∷ [])))
 
 saved-more : (saved : ℕ → Option SavedBefore) (is : Bool) (i : ℕ) (first : Option ℕ) → else_saved saved is i first (saved_at saved first) ≡ saved_at saved (else_first is i first)
 saved-more saved is i (Some j) = refl
@@ -88,6 +92,7 @@ module _ (fates : List Fate) (saved : ℕ → Option SavedBefore) where
     idle_fences = count_in fates (is_same fate.IdleFence) members;
     first_lost = find_in fates (is_same fate.Lost) members;
     first_late = find_in fates (is_same fate.Late) members;
+    last_missed = find_last_in fates is_missed members;
     first_left = find_in fates (is_same fate.Left) members;
     saved_before = saved_at saved (find_in fates (is_same fate.Left) members);
   }
@@ -99,7 +104,7 @@ module _ (fates : List Fate) (saved : ℕ → Option SavedBefore) where
       λ is. let e = sum_by_push (λ (k : ℕ). cond (is (fate_at fates k)) 1 0) members i in omega (arith, e) in
       let first_one : (is : Fate → Bool) → else_first (is (fate_at fates i)) i (find_in fates is members) ≡ find_in fates is (members ++ i ∷ []) = λ is. find-more (λ k. is (fate_at fates k)) members i in
       let kept = saved-more saved (is_same fate.Left (fate_at fates i)) i (find_in fates (is_same fate.Left) members) ∙ ap (saved_at saved) (first_one (is_same fate.Left)) in
-      rw (one is_store_fate, one (is_same fate.Lost), one (is_same fate.Ignored), one (is_same fate.Late), one is_in_time, one (is_same fate.Left), one is_flush_fate, one (is_same fate.IdleFlush), one is_fence_fate, one (is_same fate.IdleFence), first_one (is_same fate.Lost), first_one (is_same fate.Late), first_one (is_same fate.Left), kept) refl
+      rw (one is_store_fate, one (is_same fate.Lost), one (is_same fate.Ignored), one (is_same fate.Late), one is_in_time, one (is_same fate.Left), one is_flush_fate, one (is_same fate.IdleFlush), one is_fence_fate, one (is_same fate.IdleFence), first_one (is_same fate.Lost), first_one (is_same fate.Late), last-more (λ k. is_missed (fate_at fates k)) members i, first_one (is_same fate.Left), kept) refl
 
   -- the row tells of these items
   abbrev pub TellsOf : PlaceRow → List (Keyed Origin) → Type 0

@@ -1,5 +1,5 @@
 -- The places of the source, and what each of them has.
-use Rattle.std.specs.Prelude.{◌≡◌, ℕ, zero, suc, ◌+◌, Bool, true, false, List, [], ◌∷◌, ◌++◌, length, map, Option, None, Some, slice_get, slice_index, unwrap_or}
+use Rattle.std.specs.Prelude.{◌≡◌, ℕ, zero, suc, ◌+◌, Bool, true, false, List, [], ◌∷◌, ◌++◌, length, map, reverse, Option, None, Some, slice_get, slice_index, unwrap_or}
 use Rattle.std.specs.List.{All, count_by, find, sum_by}
 use Rattle.std.specs.List.Sorted.{IsPermutation}
 use Rattle.pmt_model.specs.declared.event.Event.{Event}
@@ -13,7 +13,7 @@ use Rattle.pmt_causes.specs.Counted.{counted}
 use Rattle.pmt_causes.specs.FailureKeys.{origin_of}
 use Rattle.pmt_causes.specs.Groups.{AreGrouped}
 use Rattle.pmt_causes.specs.Late.{is_fence}
-use Rattle.pmt_causes.specs.Tables.{is_flush, is_store, op_passes}
+use Rattle.pmt_causes.specs.Ops.{is_flush, is_store, op_passes}
 use Rattle.pmt_fates.specs.declared.fate.Fate.{Fate}
 use Rattle.pmt_fates.specs.declared.fate.Fate.TheVariants as fate
 use Rattle.pmt_fates.specs.declared.place_row.PlaceRow.{PlaceRow}
@@ -52,6 +52,12 @@ is_store_fate fate.Left = true
 is_store_fate fate.InTime = true
 is_store_fate f = false
 
+-- It becomes of a store that is told as never persisted, or is late.
+abbrev pub is_missed : Fate → Bool
+is_missed fate.Lost = true
+is_missed fate.Late = true
+is_missed f = false
+
 -- It becomes of a store that is persisted in time.
 abbrev pub is_in_time : Fate → Bool
 is_in_time fate.Left = true
@@ -73,12 +79,15 @@ abbrev pub fate_at : List Fate → ℕ → Fate
 fate_at fates zero = fate.Claim
 fate_at fates (suc k) = unwrap_or (slice_get fates k) fate.Claim
 
--- How many of these events have such a fate, and the first one that has.
+-- How many of these events have such a fate, and the first and the last one that have.
 abbrev pub count_in : List Fate → (Fate → Bool) → List ℕ → ℕ
 count_in fates is members = count_by (λ (i : ℕ). is (fate_at fates i)) members
 
 abbrev pub find_in : List Fate → (Fate → Bool) → List ℕ → Option ℕ
 find_in fates is members = find (λ (i : ℕ). is (fate_at fates i)) members
+
+abbrev pub find_last_in : List Fate → (Fate → Bool) → List ℕ → Option ℕ
+find_last_in fates is members = find_in fates is (reverse members)
 
 -- What a crash keeps without the event, if there is one.
 abbrev pub saved_at : (ℕ → Option SavedBefore) → Option ℕ → Option SavedBefore
@@ -102,6 +111,7 @@ row_in fates saved g = record {
   idle_fences = count_in fates (is_same fate.IdleFence) g.members.items;
   first_lost = find_in fates (is_same fate.Lost) g.members.items;
   first_late = find_in fates (is_same fate.Late) g.members.items;
+  last_missed = find_last_in fates is_missed g.members.items;
   first_left = find_in fates (is_same fate.Left) g.members.items;
   saved_before = saved_at saved (find_in fates (is_same fate.Left) g.members.items);
 }

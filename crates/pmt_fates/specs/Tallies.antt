@@ -5,7 +5,7 @@ use Rattle.pmt_fates.specs.declared.fate.Fate.{Fate}
 use Rattle.pmt_fates.specs.declared.fate.Fate.TheVariants as fate
 use Rattle.pmt_fates.specs.declared.place_row.PlaceRow.{PlaceRow}
 use Rattle.pmt_fates.specs.declared.saved_before.SavedBefore.{SavedBefore}
-use Rattle.pmt_fates.specs.Places.{is_fence_fate, is_flush_fate, is_in_time, is_same, is_store_fate}
+use Rattle.pmt_fates.specs.Places.{is_fence_fate, is_flush_fate, is_in_time, is_missed, is_same, is_store_fate}
 
 -- One more, if it is so.
 abbrev pub more : Bool → ℕ → ℕ
@@ -40,6 +40,7 @@ row_at place first = record {
   idle_fences = 0;
   first_lost = None;
   first_late = None;
+  last_missed = None;
   first_left = None;
   saved_before = None;
 }
@@ -74,6 +75,7 @@ with_fate saved i f r = record {
   idle_fences = more (is_same fate.IdleFence f) r.idle_fences;
   first_lost = else_first (is_same fate.Lost f) i r.first_lost;
   first_late = else_first (is_same fate.Late f) i r.first_late;
+  last_missed = if is_missed f then Some i else r.last_missed;
   first_left = else_first (is_same fate.Left f) i r.first_left;
   saved_before = else_saved saved (is_same fate.Left f) i r.first_left r.saved_before;
 }

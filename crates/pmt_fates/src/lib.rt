@@ -23,6 +23,7 @@ pub use crate::costs::{Cost, PlaceCost, cost_of, sort_places};
 pub use crate::counts::Counts;
 pub use crate::fences::FenceSizes;
 pub use crate::figures::{Figures, ThreadCounts, figures_of};
+pub use crate::paths::LEAST_EVENTS;
 pub use crate::place_row::PlaceRow;
 pub use crate::places::{PlaceTable, place_table};
 pub use crate::saved_before::SavedBefore;

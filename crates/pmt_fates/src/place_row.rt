@@ -37,6 +37,8 @@ pub struct PlaceRow {
     pub first_lost: Option<u64>,
     /// The first store that is late.
     pub first_late: Option<u64>,
+    /// The last store that is told as never persisted, or late.
+    pub last_missed: Option<u64>,
     /// The first store in time that a fence of its own thread leaves unsafe before.
     pub first_left: Option<u64>,
     /// What a crash right after that fence keeps, though it can lose that store.
@@ -62,6 +64,7 @@ pub(crate) fn row_at(place: Origin, first: u64) -> PlaceRow
         idle_fences: 0,
         first_lost: None,
         first_late: None,
+        last_missed: None,
         first_left: None,
         saved_before: None,
     }

@@ -19,6 +19,7 @@ pub(crate) fn add(row: &mut PlaceRow, number: u64, fate: Fate, safe: &[u64], sav
             row.stores += 1;
             row.lost += 1;
             row.first_lost = first_of(row.first_lost, number);
+            row.last_missed = Some(number);
         }
         Fate::Ignored => {
             row.stores += 1;
@@ -28,6 +29,7 @@ pub(crate) fn add(row: &mut PlaceRow, number: u64, fate: Fate, safe: &[u64], sav
             row.stores += 1;
             row.late += 1;
             row.first_late = first_of(row.first_late, number);
+            row.last_missed = Some(number);
         }
         Fate::Left => {
             row.stores += 1;

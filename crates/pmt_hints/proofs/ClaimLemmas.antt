@@ -2,7 +2,7 @@
 use Rattle.std.proofs.Common.{◌≡◌, ◌≢◌, ◌-◌, ℕ, ◌+◌, ◌<◌, ◌≤◌, ◌⊎◌, inl, inr, Bool, true, false, List, [], ◌∷◌, length, take, get_or, Option, None, Some, refl, sym, ap, subst, ◌∙◌, arith}
 use Rattle.std.specs.Prelude.{◌↔◌, ◌==◌, ◌||◌, ◌&&◌, nat_le, nat_lt, unwrap_or}
 use Rattle.std.specs.List.{filter, list_any}
-use Rattle.std.proofs.lemmas.Bool.{and_from, and_parts, and_right, cases_lt, cases_eq, eq-eqb, ne_eqb, le-leb, leb-true, lt-leb, lt-ltb, le-ltb, or_cases, or_left, or_right, false≢true}
+use Rattle.std.proofs.lemmas.Bool.{and_from, and_parts, and_right, cases_lt, cases_eq, eq-eqb, ne_eqb, le-leb, leb-true, lt-leb, lt-ltb, le-ltb, or_right, false≢true}
 use Rattle.std.proofs.lemmas.List.{take_more}
 use Rattle.std.proofs.lemmas.List.Folds.{list_any_more}
 use Rattle.pmt_model.specs.declared.finding.Verdict.{Verdict}
@@ -16,7 +16,7 @@ use Rattle.pmt_laws.proofs.Histories.{act-unique}
 use Rattle.pmt_causes.specs.declared.failure_keys.Origin.{Origin}
 use Rattle.pmt_causes.specs.FailureKeys.{origin_of}
 use Rattle.pmt_causes.proofs.ExactFailures.{origin-exact}
-use Rattle.pmt_hints.specs.Hints.{AreThose, ByOrdered, ByPersist, ClaimsLine, HasLine, IsClaimed, IsOpenFlush, IsOpenThroughout, IsToldOpen}
+use Rattle.pmt_hints.specs.Hints.{AreThose, ByOrdered, ByPersist, ClaimsRange, HasLine, IsClaimed, IsOpenFlush, IsOpenThroughout, IsToldOpen}
 use Rattle.pmt_hints.specs.Claiming.{AreAsked, Claims, asked_at, claim_at, claimed_so, event_claims, event_flush, has_line, is_claimed_line, op_claims, or_so, verdict_claims}
 use Rattle.pmt_hints.specs.declared.places.Places.{Places}
 use Rattle.pmt_hints.specs.Judging.{flush_line}
@@ -124,23 +124,22 @@ claims-there : (T : Recording) (l : ℕ) (v : Verdict) → IsVerdictOf T v → v
 claims-there T l v (OfPersist e at r op ordered passes) is =
     let both = and_parts v.pass (event_claims T.format (event T v.event) l) is in
     let names : has_line T.format r l ≡ true = sym (ap (λ o. event_claims T.format o l) at ∙ ap (λ o. op_claims T.format o l) op) ∙ both.1 in
-    (v.event, ByPersist e r at op (passes.0 both.0) (line-there T.format r l names))
+    (v.event, r, ByPersist e at op (passes.0 both.0), line-there T.format r l names)
 claims-there T l v (OfOrdered e at r q op ordered passes) is =
     let both = and_parts v.pass (event_claims T.format (event T v.event) l) is in
-    let names : (has_line T.format r l || has_line T.format q l) ≡ true = sym (ap (λ o. event_claims T.format o l) at ∙ ap (λ o. op_claims T.format o l) op) ∙ both.1 in
-    (v.event, ByOrdered e r q at op (passes.0 both.0) (elim (or_cases (has_line T.format r l) (has_line T.format q l) names) [ inl a ↦ inl (line-there T.format r l a) | inr b ↦ inr (line-there T.format q l b) ]))
+    let names : has_line T.format r l ≡ true = sym (ap (λ o. event_claims T.format o l) at ∙ ap (λ o. op_claims T.format o l) op) ∙ both.1 in
+    (v.event, r, ByOrdered q (record { assertion = e; is = at; op = op; passes = passes.0 both.0 }), line-there T.format r l names)
 
-claims-back : (T : Recording) (l i : ℕ) → ClaimsLine T l i → (v : Verdict) × IsVerdictOf T v × (verdict_claims T l v ≡ true)
-claims-back T l i (ByPersist e A at op passes names) =
+claims-back : (T : Recording) (l i : ℕ) (A : Span) → ClaimsRange T A i → HasLine T.format A l → (v : Verdict) × IsVerdictOf T v × (verdict_claims T l v ≡ true)
+claims-back T l i A (ByPersist e at op passes) names =
     (record { event = i; ordered = false; pass = true }, OfPersist e at A op refl (λ _. passes, λ _. refl), ap (λ o. event_claims T.format o l) at ∙ ap (λ o. op_claims T.format o l) op ∙ line-back T.format A l names)
-claims-back T l i (ByOrdered e A B at op passes names) =
-    let either : (has_line T.format A l || has_line T.format B l) ≡ true = elim names [ inl a ↦ or_left _ _ (line-back T.format A l a) | inr b ↦ or_right _ _ (line-back T.format B l b) ] in
-    (record { event = i; ordered = true; pass = true }, OfOrdered e at A B op refl (λ _. passes, λ _. refl), ap (λ o. event_claims T.format o l) at ∙ ap (λ o. op_claims T.format o l) op ∙ either)
+claims-back T l i A (ByOrdered B it) names =
+    (record { event = i; ordered = true; pass = true }, OfOrdered it.assertion it.is A B it.op refl (λ _. it.passes, λ _. refl), ap (λ o. event_claims T.format o l) it.is ∙ ap (λ o. op_claims T.format o l) it.op ∙ line-back T.format A l names)
 
 claims-line : (T : Recording) (vs : List Verdict) (l : ℕ) → IsVerdicts T vs → (list_any (verdict_claims T l) vs ≡ true) ↔ IsClaimed T l
 claims-line T vs l x = (
   λ any. (let found = any-verdict (verdict_claims T l) vs any in claims-there T l found.0 ((x.just found.0).0 found.1) found.2),
-  λ claimed. (let found = claims-back T l claimed.0 claimed.1 in verdict-any (verdict_claims T l) vs found.0 ((x.just found.0).1 found.1) found.2),
+  λ claimed. (let found = claims-back T l claimed.0 claimed.1 claimed.2 claimed.3 in verdict-any (verdict_claims T l) vs found.0 ((x.just found.0).1 found.1) found.2),
 )
 
 -- ---- Places none of whose flushes is of a claimed line

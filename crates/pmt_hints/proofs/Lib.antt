@@ -1,7 +1,10 @@
 pub mod ClaimLemmas
+pub mod ContrastLemmas
 pub mod FlagLemmas
 pub mod GoingLemmas
 pub mod LeftLemmas
+pub mod MarkingLemmas
+pub mod NamingLemmas
 pub mod NumberLemmas
 pub mod OpenAtLemmas
 pub mod PartingLemmas

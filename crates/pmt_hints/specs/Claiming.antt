@@ -29,7 +29,7 @@ or_so is (Some was) = Some (was || is)
 abbrev pub has_line : Layout → Span → ℕ → Bool
 has_line f A l = nat_le (line_of f A.addr) l && nat_le l (line_of f (A.addr + A.len - 1))
 
--- The op is an assertion, and a range of it has a byte of line l.
+-- The op is an isPersist or an isOrderedBefore, and its range or first one has a byte of line l.
 abbrev pub op_claims : Layout → Op → ℕ → Bool
 op_claims f (Store w) l = false
 op_claims f (Clwb a) l = false
@@ -38,7 +38,7 @@ op_claims f (Clflush a) l = false
 op_claims f Sfence l = false
 op_claims f Mfence l = false
 op_claims f (IsPersist A) l = has_line f A l
-op_claims f (IsOrderedBefore A B) l = has_line f A l || has_line f B l
+op_claims f (IsOrderedBefore A B) l = has_line f A l
 
 abbrev pub event_claims : Layout → Option Event → ℕ → Bool
 event_claims f None l = false

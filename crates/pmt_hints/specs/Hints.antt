@@ -1,17 +1,20 @@
 -- What hints are told of: each kind is a set of events.
-use Rattle.std.specs.Prelude.{◌≡◌, ◌≢◌, ◌↔◌, ◌⊎◌, ℕ, suc, ◌+◌, ◌-◌, ◌%◌, ◌<◌, ◌≤◌, List, length, Option, Some}
+use Rattle.std.specs.Prelude.{◌≡◌, ◌≢◌, ◌↔◌, ◌⊎◌, ℕ, suc, ◌+◌, ◌-◌, ◌%◌, ◌<◌, ◌≤◌, Bool, List, length, Option, Some}
 use Rattle.pmt_model.specs.declared.event.Event.{Event}
 use Rattle.pmt_model.specs.declared.event.Op.TheVariants.{IsOrderedBefore, IsPersist, Store}
 use Rattle.pmt_model.specs.Values.{Layout, Span, Written, line_of}
 use Rattle.pmt_model.specs.Machine.{Stores, Flushes, Fences}
-use Rattle.pmt_model.specs.Assertions.{OrderedPasses, PersistPasses}
+use Rattle.pmt_model.specs.Assertions.{InSpan, OrderedPasses, PersistPasses}
 use Rattle.pmt_model.specs.Traces.{Recording, IsAct, act, event, history}
-use Rattle.pmt_model.specs.Findings.{IsFlushOf}
+use Rattle.pmt_model.specs.Findings.{IsFlushOf, last_store_number}
 use Rattle.pmt_model.specs.Keeping.{IsKept}
 use Rattle.pmt_model.specs.Selections.{IsRising, Has}
 use Rattle.pmt_explain.specs.Saving.{IsSafePlace}
 use Rattle.pmt_causes.specs.FailureKeys.{origin_of}
 use Rattle.pmt_causes.specs.Late.{fences_between}
+use Rattle.pmt_hints.specs.declared.named.Role.{Role}
+use Rattle.pmt_hints.specs.declared.named.Role.TheVariants.{Claimed, First, Second}
+use Rattle.pmt_hints.specs.Flagging.{AreFlags}
 
 -- These are the events that have the property, in their order.
 pub record AreThose (P : ℕ → Type 0) (numbers : List ℕ) : Type 0 where
@@ -66,14 +69,21 @@ pub record IsOpenThroughout (T : Recording) (labels : List (Option ℕ)) (i : �
 abbrev pub HasLine : Layout → Span → ℕ → Type 0
 HasLine f A l = (line_of f A.addr ≤ l) × (l ≤ line_of f (A.addr + A.len - 1))
 
--- Event i is an assertion that passes, and a range of it has a byte of line l.
-pub data ClaimsLine (T : Recording) (l i : ℕ) : Type 0 where
-  ByPersist : (e : Event) (A : Span) → event T i ≡ Some e → e.op ≡ IsPersist A → PersistPasses (history T i) A → HasLine T.format A l → ClaimsLine T l i
-  ByOrdered : (e : Event) (A B : Span) → event T i ≡ Some e → e.op ≡ IsOrderedBefore A B → OrderedPasses (history T i) A B → HasLine T.format A l ⊎ HasLine T.format B l → ClaimsLine T l i
+-- Event i is an isOrderedBefore of these ranges, and passes.
+pub record PassesOrdered (T : Recording) (A B : Span) (i : ℕ) : Type 0 where
+  pub assertion : Event
+  pub is : event T i ≡ Some assertion
+  pub op : assertion.op ≡ IsOrderedBefore A B
+  pub passes : OrderedPasses (history T i) A B
 
--- Some assertion of the trace claims something of the line, and passes.
+-- Event i passes, and says that the bytes of A are saved: it is an isPersist of A, or an isOrderedBefore whose first range is A.
+pub data ClaimsRange (T : Recording) (A : Span) (i : ℕ) : Type 0 where
+  ByPersist : (e : Event) → event T i ≡ Some e → e.op ≡ IsPersist A → PersistPasses (history T i) A → ClaimsRange T A i
+  ByOrdered : (B : Span) → PassesOrdered T A B i → ClaimsRange T A i
+
+-- Some assertion of the trace claims a byte of the line.
 abbrev pub IsClaimed : Recording → ℕ → Type 0
-IsClaimed T l = (i : ℕ) × ClaimsLine T l i
+IsClaimed T l = (i : ℕ) × (A : Span) × ClaimsRange T A i × HasLine T.format A l
 
 -- Open at a store, as it is told: only where no kept flush of the place is of a line that is claimed.
 pub record IsToldOpen (T : Recording) (labels : List (Option ℕ)) (i : ℕ) : Type 0 where
@@ -136,3 +146,40 @@ pub record IsOneLineShort (T : Recording) (labels : List (Option ℕ)) (i : ℕ)
   pub earlier : rest < i
   pub still_open : ¬ FencesBetween T thread rest i
   pub ends : (k : ℕ) → GoesOn T labels thread (suc line) k → k < i → FencesBetween T thread k i
+
+-- Event i passes, and A is its range of this role.
+abbrev pub Names : Recording → Role → Span → ℕ → Type 0
+Names T Claimed A i = ClaimsRange T A i
+Names T First A i = (B : Span) × PassesOrdered T A B i
+Names T Second B i = (A : Span) × PassesOrdered T A B i
+
+-- Store i is the last one to a byte of a range of this role, as of its assertion.
+pub record IsNamed (T : Recording) (role : Role) (i : ℕ) : Type 0 where
+  pub range : Span
+  pub assertion : ℕ
+  pub byte : ℕ
+  pub names : Names T role range assertion
+  pub inside : InSpan range byte
+  pub last : last_store_number byte (history T assertion) ≡ Some i
+
+-- Of each event, in order, whether it is a store that is claimed.
+abbrev pub AreClaimedStores : Recording → List Bool → Type 0
+AreClaimedStores T flags = AreFlags (IsNamed T Claimed) (length T.events) flags
+
+-- Stored after a mark, which is the last store to a byte of the second range of an isOrderedBefore that passes: event i is a store by the
+-- thread and from the place of the mark, to another address, and the thread does not fence between them. It is no mark, and in no first
+-- range: a crash can keep the mark and lose it.
+pub record IsStoredAfterMark (T : Recording) (labels : List (Option ℕ)) (i : ℕ) : Type 0 where
+  pub thread : ℕ
+  pub mark : ℕ
+  pub first : Written
+  pub second : Written
+  pub is_first : IsStoreOf T thread first mark
+  pub is_second : IsStoreOf T thread second i
+  pub is_mark : IsNamed T Second mark
+  pub order : mark < i
+  pub still_open : ¬ FencesBetween T thread mark i
+  pub same_place : origin_of labels mark thread ≡ origin_of labels i thread
+  pub elsewhere : first.addr ≢ second.addr
+  pub no_mark : ¬ IsNamed T Second i
+  pub no_first : ¬ IsNamed T First i

@@ -1,8 +1,11 @@
 pub mod Claiming
+pub mod Contrasts
 pub mod Flagging
 pub mod GoingOn
 pub mod Hints
 pub mod Judging
+pub mod Marking
+pub mod Naming
 pub mod Numbers
 pub mod Parting
 pub mod Placing

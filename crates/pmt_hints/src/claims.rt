@@ -12,7 +12,7 @@ use std::alloc::Global;
 use std::collections::HashMap;
 
 /// Some lines, each by whether an assertion that passes has a byte of it.
-pub(crate) type Claims = HashMap<u64, bool>;
+pub type Claims = HashMap<u64, bool>;
 
 // The lines of these flushes, each by whether an assertion of these verdicts passes and has a byte of it.
 pub(crate) fn claims_on(
@@ -51,8 +51,8 @@ fn is_claimed(trace: &Trace, claims: &Claims, number: u64) -> bool
     is_line_claimed(claims, line_flushed(trace, number))
 }
 
-// Whether the line is claimed, if there is one.
-fn is_line_claimed(claims: &Claims, line: Option<u64>) -> bool
+/// Whether the line is noted, if there is one.
+pub fn is_line_claimed(claims: &Claims, line: Option<u64>) -> bool
     ensures { result ≡ is_claimed_line claims.now line }
 {
     match line {
@@ -82,8 +82,11 @@ fn flushed_lines(alloc: Global, trace: &Trace, flushes: &[u64]) -> Result<Claims
     Ok(claims)
 }
 
-// Asks for the line, if there is one.
-fn ask_for(claims: &mut Claims, line: Option<u64>) -> Result<(), OutOfMemory>
+/// Asks for the line, if there is one.
+///
+/// # Errors
+/// Where memory was refused.
+pub fn ask_for(claims: &mut Claims, line: Option<u64>) -> Result<(), OutOfMemory>
     ensures { OnOk result ((l : ℕ) → claim_at claims.new l ≡ asked_at line l (claim_at claims.old l)) }
 {
     match line {
@@ -128,17 +131,19 @@ fn note_op(claims: &mut Claims, format: Format, op: Op) -> Result<(), OutOfMemor
 {
     match op {
         Op::IsPersist(range) => note_range(claims, format, range),
-        Op::IsOrderedBefore(first, second) => {
-            note_range(claims, format, first)?;
-            note_range(claims, format, second)
-        }
+        Op::IsOrderedBefore(first, _) => note_range(claims, format, first),
         Op::Store(_) | Op::Clwb(_) | Op::ClflushOpt(_) | Op::Clflush(_) | Op::Sfence | Op::Mfence =>
-            { Ok(()) }
+            Ok(()),
     }
 }
 
-// Notes that the lines of the range are claimed.
-fn note_range(claims: &mut Claims, format: Format, range: Range) -> Result<(), OutOfMemory>
+/// Notes the lines of the range, as far as they are asked for.
+///
+/// It takes a look-up at each line.
+///
+/// # Errors
+/// Where memory was refused.
+pub fn note_range(claims: &mut Claims, format: Format, range: Range) -> Result<(), OutOfMemory>
     ensures { OnOk result ((l : ℕ) → claim_at claims.new l ≡ or_so (has_line format range l) (claim_at claims.old l)) }
 {
     let first = line_of(format, range.addr());
@@ -156,8 +161,11 @@ fn end_of(format: Format, range: Range) -> u64
     (range.addr().get() + range.len() - 1) / format.line_size() + 1
 }
 
-// Notes that the line is claimed, if it is asked for.
-fn note_line(claims: &mut Claims, line: u64) -> Result<(), OutOfMemory>
+/// Notes the line, if it is asked for.
+///
+/// # Errors
+/// Where memory was refused.
+pub fn note_line(claims: &mut Claims, line: u64) -> Result<(), OutOfMemory>
     ensures { OnOk result ((l : ℕ) → claim_at claims.new l ≡ or_so (line == l) (claim_at claims.old l)) }
 {
     if claims.contains_key(&line) {

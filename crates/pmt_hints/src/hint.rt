@@ -20,6 +20,8 @@ pub enum HintKind {
     SplitWord,
     /// Flushes of a run of lines that ends one line before what was stored does.
     OneLineShort,
+    /// Stores that come after a mark, the store to the second range of an order that passes, by the next fence.
+    StoredAfterMark,
 }
 
 // How many events of a path are no chance.

@@ -3,10 +3,13 @@
 //! The definitions stand in `specs/`.
 #![tactic(auto)]
 
-mod claims;
+pub mod after_mark;
+pub mod claims;
+pub mod contrast;
 mod flushers;
 mod going_on;
 pub mod hint;
+pub mod named;
 mod next_stores;
 mod numbers;
 pub mod open_at;
@@ -16,7 +19,10 @@ pub mod short_runs;
 pub mod split_word;
 pub mod stored_after;
 
+pub use crate::after_mark::stored_after_mark;
+pub use crate::contrast::{Contrast, contrasts_of};
 pub use crate::hint::{Hint, HintKind, hints_of, path_hints_of};
+pub use crate::named::claimed_stores;
 pub use crate::open_at::{open_at_store, told_on_paths, told_open};
 pub use crate::short_runs::one_line_short;
 pub use crate::split_word::split_words;

@@ -1,13 +1,8 @@
 //! The stores of a line, and when each of them changes its state.
-use crate::numbered::{Numbers, count_before, is_listed};
+use crate::ops::{is_fence, is_flush, line_of_op};
 use crate::picture::Column;
-use crate::spans::line_of_op;
-use crate::waiting::{is_fence, is_flush};
-use pmt_model::{Format, Op, OutOfMemory, Trace};
-use std::alloc::{AllocError, Global};
-
-/// The most lanes of a row, where the events are not those that tell of the subject.
-pub const MOST_LANES: usize = 8;
+use pmt_model::{Event, Format, Op, OutOfMemory, Trace};
+use std::alloc::Global;
 
 /// A flush of a line.
 #[derive(Clone, Copy, PartialEq, Eq)]
@@ -18,9 +13,11 @@ pub struct Flush {
     pub thread: u8,
 }
 
-/// The event that makes a store safe.
-#[derive(Clone, Copy)]
+/// The event that makes a store safe: from it on no crash loses the store.
+#[derive(Clone, Copy, PartialEq, Eq)]
 pub struct Saver {
+    /// Its number.
+    pub number: u64,
     /// Its thread.
     pub thread: u8,
     /// Whether it is a fence, and not a clflush.
@@ -36,16 +33,12 @@ pub struct Bar {
     pub store: u64,
     /// The last store's number.
     pub last: u64,
-    /// How many of its stores are drawn.
+    /// How many they are.
     pub drawn: u64,
-    /// How many stores besides the first share the bar and are not drawn; they are not safe when it begins.
-    pub older: u64,
     /// The first flush of the line after the stores, up to the last event that is drawn.
     pub flush: Option<Flush>,
-    /// The event from which on no crash loses the stores, if there is one up to the last event that is drawn.
-    pub safe: Option<u64>,
-    /// What that event is.
-    pub saver: Option<Saver>,
+    /// What makes them safe, up to the last event that is drawn.
+    pub safe: Option<Saver>,
     /// Which of the row's lanes it lies in, from 0.
     pub lane: usize,
     /// The store whose bar takes over the lane. This one is safe before.
@@ -53,49 +46,28 @@ pub struct Bar {
 }
 
 impl Bar {
-    /// Whether the column is one of its stores that are drawn.
+    /// Whether the column is one of its stores.
     pub fn has(&self, format: Format, column: &Column) -> bool {
         let op = column.event.op;
         let is_within = self.store <= column.number && column.number <= self.last;
-        is_within
-            && self.drawn > 0
-            && matches!(op, Op::Store(_))
-            && line_of_op(format, op) == Some(self.line)
+        is_within && matches!(op, Op::Store(_)) && line_of_op(format, op) == Some(self.line)
     }
 }
 
-/// A line, and its stores that are drawn.
+/// A line, and its stores and flushes that are drawn.
 #[derive(Drop)]
 pub struct Row {
     /// The number of the line.
     pub line: u64,
     /// The bars, by rising store.
     pub bars: Vec<Bar>,
-    /// The flushes of the line that are drawn.
+    /// The flushes.
     pub flushes: Vec<Flush>,
     /// How many lanes there are.
     pub lanes: usize,
-    /// How many bars have no lane left.
-    pub crowded: u64,
-    // Whether memory was refused to it.
-    refused: bool,
 }
 
-impl Row {
-    /// A row of the line with no bar.
-    pub fn new(alloc: Global, line: u64) -> Self {
-        Row {
-            line,
-            bars: Vec::new(alloc),
-            flushes: Vec::new(alloc),
-            lanes: 0,
-            crowded: 0,
-            refused: false,
-        }
-    }
-}
-
-/// Which events are drawn, and after which of them crashes come.
+/// Which events are drawn, and after which of them the crash comes.
 #[derive(Clone, Copy)]
 pub struct Drawn<'a> {
     /// The trace.
@@ -104,10 +76,8 @@ pub struct Drawn<'a> {
     pub safe: &'a [u64],
     /// The events' numbers, rising.
     pub columns: &'a [u64],
-    /// The crashes' places, rising. Stores before one share no bar with stores after it.
-    pub places: &'a [u64],
-    /// Whether they are the events that tell of the subject: then each store that is drawn has a bar, and no other one has.
-    pub is_told: bool,
+    /// The crash's place, or the greatest number. Stores before it share no bar with stores after it.
+    pub crash: u64,
 }
 
 impl Drawn<'_> {
@@ -116,10 +86,19 @@ impl Drawn<'_> {
         self.columns.last().copied().unwrap_or(0)
     }
 
-    // The place from which on no crash loses the store.
-    fn safe_place(&self, store: u64) -> u64 {
+    // What makes the store safe, up to the last event that is drawn.
+    fn saver_of(&self, store: u64) -> Option<Saver> {
         let index = store.saturating_sub(1) as usize;
-        self.safe.get(index).copied().unwrap_or(u64::MAX)
+        let number = self.safe.get(index).copied()?;
+        if number > self.last() {
+            return None;
+        }
+        let event = self.trace.get(number)?;
+        Some(Saver {
+            number,
+            thread: event.thread,
+            is_fence: is_fence(&event.op),
+        })
     }
 }
 
@@ -128,167 +107,86 @@ impl Drawn<'_> {
 /// # Errors
 /// Where memory was refused.
 pub fn row_of(alloc: Global, drawn: Drawn<'_>, line: u64) -> Result<Row, OutOfMemory> {
-    let events = events_of(alloc, drawn, line)?;
-    let mut row = Row::new(alloc, line);
-    push_bars(&mut row, drawn, &events);
-    for flush in &events.flushes {
-        if is_listed(drawn.columns, flush.number) {
-            row.refused = row.refused || row.flushes.push(*flush).is_err();
+    let all = flushes_of(alloc, drawn, line)?;
+    let mut row = Row {
+        line,
+        bars: Vec::new(alloc),
+        flushes: Vec::new(alloc),
+        lanes: 0,
+    };
+    for column in drawn.columns {
+        let number = *column;
+        let Some(Event { thread, op }) = drawn.trace.get(number) else {
+            continue;
+        };
+        if line_of_op(drawn.trace.format(), op) != Some(line) {
+            continue;
         }
-    }
-    if row.refused {
-        return Err(AllocError);
+        if is_flush(&op) {
+            row.flushes.push(Flush { number, thread })?;
+        } else {
+            let bar = bar_of(drawn, all.as_slice(), line, number);
+            push_bar(&mut row, drawn.crash, bar)?;
+        }
     }
     Ok(row)
 }
 
-// Adds the bars of the line's stores.
-fn push_bars(row: &mut Row, drawn: Drawn<'_>, events: &LineEvents) {
-    let stores = events.stores.as_slice();
-    let mut from = 0;
-    for column in drawn.columns {
-        if let Some(bar) = hidden_bar(drawn, events, from, *column) {
-            push_bar(row, drawn, bar);
-        }
-        if is_listed(stores, *column) {
-            push_bar(row, drawn, bar_of(drawn, events, *column));
-        }
-        from = count_before(stores, column.saturating_add(1));
-    }
-}
-
-// The stores and the flushes of a line up to the last event that is drawn.
-#[derive(Drop)]
-struct LineEvents {
-    // The number of the line.
-    line: u64,
-    // The numbers of the stores, rising.
-    stores: Vec<u64>,
-    // The flushes, by rising number.
-    flushes: Vec<Flush>,
-}
-
-// Those of the line with this number.
-fn events_of(alloc: Global, drawn: Drawn<'_>, line: u64) -> Result<LineEvents, OutOfMemory> {
-    let format = drawn.trace.format();
-    let mut stores = Numbers::new(alloc);
+// The flushes of the line up to the last event that is drawn.
+fn flushes_of(alloc: Global, drawn: Drawn<'_>, line: u64) -> Result<Vec<Flush>, OutOfMemory> {
     let mut flushes = Vec::new(alloc);
     let end = drawn.last() as usize;
     for (index, event) in drawn.trace.events().iter().enumerate().take(end) {
-        let number = (index as u64).saturating_add(1);
         let op = event.op;
-        if line_of_op(format, op) != Some(line) {
-            continue;
-        }
-        if is_flush(&op) {
+        if is_flush(&op) && line_of_op(drawn.trace.format(), op) == Some(line) {
             flushes.push(Flush {
-                number,
+                number: (index as u64).saturating_add(1),
                 thread: event.thread,
             })?;
-        } else {
-            stores.push(number);
         }
     }
-    Ok(LineEvents {
-        line,
-        stores: stores.rising()?,
-        flushes,
-    })
-}
-
-// The bar of the stores from this index on that are left out before the event `next`, those that are not safe when it comes.
-fn hidden_bar(drawn: Drawn<'_>, events: &LineEvents, from: usize, next: u64) -> Option<Bar> {
-    if drawn.is_told {
-        return None;
-    }
-    let mut waiting: u64 = 0;
-    let mut last = 0;
-    for store in events.stores.iter().skip(from) {
-        if next <= *store {
-            break;
-        }
-        if next <= drawn.safe_place(*store) {
-            waiting = waiting.saturating_add(1);
-            last = *store;
-        }
-    }
-    if waiting == 0 {
-        return None;
-    }
-    let mut bar = bar_of(drawn, events, last);
-    bar.drawn = 0;
-    bar.older = waiting - 1;
-    Some(bar)
+    Ok(flushes)
 }
 
 // The bar of the store alone, with no lane yet.
-fn bar_of(drawn: Drawn<'_>, events: &LineEvents, store: u64) -> Bar {
-    let place = drawn.safe_place(store);
-    let (safe, saver) = if place <= drawn.last() {
-        (Some(place), saver_of(drawn.trace, place))
-    } else {
-        (None, None)
-    };
-    let later = events
-        .flushes
-        .partition_point(|flush| flush.number <= store);
+fn bar_of(drawn: Drawn<'_>, flushes: &[Flush], line: u64, store: u64) -> Bar {
+    let later = flushes.partition_point(|flush| flush.number <= store);
     Bar {
-        line: events.line,
+        line,
         store,
         last: store,
         drawn: 1,
-        older: 0,
-        flush: events.flushes.get(later).copied(),
-        safe,
-        saver,
+        flush: flushes.get(later).copied(),
+        safe: drawn.saver_of(store),
         lane: 0,
         until: None,
     }
 }
 
 // Adds the bar: to the last one, where they share their states, or else in the first lane that is free.
-fn push_bar(row: &mut Row, drawn: Drawn<'_>, bar: Bar) {
-    if joins(row.bars.as_mut_slice(), drawn.places, &bar) {
-        return;
+fn push_bar(row: &mut Row, crash: u64, bar: Bar) -> Result<(), OutOfMemory> {
+    if joins(row.bars.as_mut_slice(), crash, &bar) {
+        return Ok(());
     }
     let lane = take_lane(row.bars.as_mut_slice(), row.lanes, bar.store);
-    if lane >= MOST_LANES && !drawn.is_told {
-        row.crowded = row.crowded.saturating_add(1);
-        return;
-    }
     row.lanes = row.lanes.max(lane.saturating_add(1));
-    let mut placed = bar;
-    placed.lane = lane;
-    row.refused = row.refused || row.bars.push(placed).is_err();
+    row.bars.push(Bar { lane, ..bar })?;
+    Ok(())
 }
 
-// Whether the last of these bars takes the bar in: both are of stores that are drawn, or both are of others, no crash comes between,
-// and they have the same flush and are safe from the same event on.
-fn joins(bars: &mut [Bar], places: &[u64], bar: &Bar) -> bool {
+// Whether the last of these bars takes the store of the bar in: no crash comes between, and they have the same flush and are safe from the
+// same event on.
+fn joins(bars: &mut [Bar], crash: u64, bar: &Bar) -> bool {
     let Some(before) = bars.last_mut() else {
         return false;
     };
-    let is_parted = count_before(places, before.last) != count_before(places, bar.store);
-    let is_same = before.flush == bar.flush && before.safe == bar.safe;
-    if is_parted || !is_same || (before.drawn > 0) != (bar.drawn > 0) {
+    let is_parted = (crash < before.last) != (crash < bar.store);
+    if is_parted || before.flush != bar.flush || before.safe != bar.safe {
         return false;
     }
     before.last = bar.last;
-    if bar.drawn > 0 {
-        before.drawn = before.drawn.saturating_add(1);
-    } else {
-        before.older = before.older.saturating_add(bar.older).saturating_add(1);
-    }
+    before.drawn = before.drawn.saturating_add(1);
     true
-}
-
-// What the event with this number is, which makes stores safe.
-fn saver_of(trace: &Trace, number: u64) -> Option<Saver> {
-    let event = trace.get(number)?;
-    Some(Saver {
-        thread: event.thread,
-        is_fence: is_fence(&event.op),
-    })
 }
 
 // The first lane whose bar is safe before the store comes, or else a new one. That bar ends at the store.
@@ -296,7 +194,7 @@ fn take_lane(bars: &mut [Bar], lanes: usize, store: u64) -> usize {
     for bar in bars {
         if bar.until.is_none() {
             if let Some(safe) = bar.safe {
-                if safe < store {
+                if safe.number < store {
                     bar.until = Some(store);
                     return bar.lane;
                 }

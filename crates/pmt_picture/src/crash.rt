@@ -1,7 +1,6 @@
-//! The crashes that are drawn.
+//! The crash that is drawn.
 use crate::known::Known;
-use crate::numbered::Numbers;
-use crate::spans::line_of_op;
+use crate::ops::line_of_op;
 use pmt_explain::{LostGroup, cause, failure, lost_in_range};
 use pmt_model::{Op, OutOfMemory, Trace};
 use pmt_reasons::{ByteStore, Cause, Failure};
@@ -70,11 +69,11 @@ pub(crate) fn crash_at_end(
     group: LostGroup,
 ) -> Result<Crash, OutOfMemory> {
     let format = known.trace.format();
-    let mut lost = Numbers::new(alloc);
+    let mut lost = Vec::new(alloc);
     for number in known.never {
         if let Some(event) = known.trace.get(*number) {
             if line_of_op(format, event.op) == Some(group.line) {
-                lost.push(*number);
+                lost.push(*number)?;
             }
         }
     }
@@ -89,7 +88,7 @@ pub(crate) fn crash_at_end(
             },
         },
         cause: Some(group.cause),
-        lost: lost.rising()?,
+        lost,
     })
 }
 

@@ -1,6 +1,5 @@
 //! What is known of a trace before it is drawn.
 use pmt_dropping::Dropped;
-use pmt_explain::{LostGroup, OverwrittenGroup};
 use pmt_model::{Trace, Verdict};
 use pmt_reasons::Reason;
 
@@ -13,22 +12,10 @@ pub struct Known<'a> {
     pub lines: u64,
     /// The verdicts of its assertions, in event order.
     pub verdicts: &'a [Verdict],
-    /// The numbers of the assertions that fail, those first that are told first.
-    pub failing: &'a [u64],
     /// The stores that are never persisted, by rising number.
     pub never: &'a [u64],
-    /// Their groups, those first that are told first.
-    pub lost: &'a [LostGroup],
     /// The events that are dropped, by rising number, each with its reason.
     pub dropped: &'a [Dropped],
-    /// The numbers of these events, those first that are told first.
-    pub useless: &'a [u64],
-    /// The groups of stores that are written over, those first that are told first.
-    pub overwritten: &'a [OverwrittenGroup],
-    /// The stores that are saved late, those first that are told first.
-    pub late: &'a [u64],
-    /// The assertions on bytes that no store has written by then, by rising number.
-    pub unwritten: &'a [u64],
 }
 
 impl Known<'_> {

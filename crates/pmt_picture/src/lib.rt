@@ -6,20 +6,15 @@
 #![tactic(auto)]
 
 pub mod about;
-mod asked;
 mod asserted;
 pub mod bars;
 pub mod crash;
 pub mod known;
 pub mod missing;
-mod nearby;
-mod noted;
-mod numbered;
+mod ops;
 pub mod picture;
-mod spans;
 pub mod subject;
 pub mod told;
-mod waiting;
 
 pub use crate::about::{About, about_of};
 pub use crate::asserted::{Asserted, Role};
@@ -27,8 +22,7 @@ pub use crate::bars::{Bar, Flush, Row, Saver};
 pub use crate::crash::{Assertion, Crash};
 pub use crate::known::Known;
 pub use crate::missing::{Missing, Wanted};
-pub use crate::picture::{Column, MOST_CRASHES, Picture, picture_of};
-pub use crate::spans::{line_of_op, lines_of_addresses};
-pub use crate::subject::{Refusal, Subject, first_subject, refusal_of};
+pub use crate::ops::{line_of_op, waits_for_fence};
+pub use crate::picture::{Column, Picture, picture_of};
+pub use crate::subject::{Refusal, Subject, refusal_of};
 pub use crate::told::Told;
-pub use crate::waiting::waits_for_fence;

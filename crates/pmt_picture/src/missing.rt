@@ -1,10 +1,8 @@
 //! What is missing where a crash loses stores: the events that mend that, and where they are put in.
-use crate::asserted::{Asserted, asserted_of};
+use crate::asserted::Asserted;
 use crate::crash::Crash;
-use crate::nearby::next_fence;
-use crate::spans::line_of_op;
+use crate::ops::{line_of_op, next_fence, waits_for_fence};
 use crate::subject::Subject;
-use crate::waiting::waits_for_fence;
 use pmt_model::{Event, Op, OutOfMemory, Trace};
 use pmt_reasons::Cause;
 use std::alloc::Global;
@@ -36,7 +34,8 @@ pub struct Missing {
     pub before: Option<u64>,
 }
 
-/// What is missing so that the subject's crash does not lose the store that it loses first, in the order in which it is put in.
+/// What is missing so that the subject's crash does not lose the store that it loses first, in the order in which it is put in. The bytes
+/// that it should not lose are those that are `claimed`.
 ///
 /// # Errors
 /// Where memory was refused.
@@ -45,6 +44,7 @@ pub(crate) fn missing_of(
     trace: &Trace,
     subject: Subject,
     crash: Option<&Crash>,
+    claimed: Option<Asserted>,
 ) -> Result<Vec<Missing>, OutOfMemory> {
     let Some(crash) = crash else {
         return Ok(Vec::new(alloc));
@@ -64,7 +64,7 @@ pub(crate) fn missing_of(
             },
         ) => {
             let after = match before {
-                Some(end) => last_flush(trace, crash, thread, flush, end),
+                Some(end) => last_flush(trace, claimed, thread, flush, end),
                 None => flush,
             };
             Ok(vec![in alloc; fence(thread, after, before)]?)
@@ -177,9 +177,15 @@ fn store_of(trace: &Trace, store: u64) -> Option<(u8, u64)> {
     Some((thread, line))
 }
 
-// The last flush of the assertion's first range by the thread before that event; the first one of these is event `first`.
-fn last_flush(trace: &Trace, crash: &Crash, thread: u8, first: u64, before: u64) -> u64 {
-    let Some(range) = first_range(trace, crash) else {
+// The last flush of the claimed bytes by the thread before that event; the first one of these is event `first`.
+fn last_flush(
+    trace: &Trace,
+    claimed: Option<Asserted>,
+    thread: u8,
+    first: u64,
+    before: u64,
+) -> u64 {
+    let Some(range) = claimed else {
         return first;
     };
     let (low, high) = range.lines(trace.format());
@@ -192,14 +198,6 @@ fn last_flush(trace: &Trace, crash: &Crash, thread: u8, first: u64, before: u64)
         }
     }
     first
-}
-
-// The first range of the assertion that the crash violates.
-fn first_range(trace: &Trace, crash: &Crash) -> Option<Asserted> {
-    let assertion = crash.assertion?;
-    let event = trace.get(assertion.number)?;
-    let claims = asserted_of(event.op);
-    claims[0]
 }
 
 // Whether the op flushes one of these lines, by a flush that waits for a fence.

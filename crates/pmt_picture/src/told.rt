@@ -1,14 +1,12 @@
 //! The events that a picture has: of a failed assertion, and of stores that are lost or late, those of their slices, as far as there is room.
-use crate::asked::{around, between};
 use crate::crash::Crash;
-use crate::noted::{dropped_told, overwritten_told, unwritten_told};
 use crate::subject::Subject;
 use pmt_model::{OutOfMemory, Trace};
 use pmt_slices::{slice_of, store_sliced, story_of};
 use std::alloc::Global;
 
-/// The most events of a finding that a picture shows.
-pub(crate) const MOST_TOLD: usize = 24;
+// The most events that a picture shows.
+const MOST_TOLD: usize = 24;
 
 /// The events that a picture has.
 #[derive(Drop)]
@@ -28,19 +26,28 @@ pub(crate) fn told_of(
     trace: &Trace,
     subject: Subject,
     crash: Option<&Crash>,
-    kept: &[u64],
 ) -> Result<Told, OutOfMemory> {
     match subject {
         Subject::Failure(number) => failure_told(alloc, trace, number, crash),
         Subject::Lost(_) => lost_told(alloc, trace, crash),
         Subject::Late(store) => stores_told(alloc, trace, &[store]),
-        Subject::Dropped(dropped) => dropped_told(alloc, trace, dropped),
-        Subject::Overwritten(pair) => overwritten_told(alloc, trace, pair),
-        Subject::Unwritten(number) => unwritten_told(alloc, trace, number),
-        Subject::Start => between(alloc, trace, kept, 1, u64::MAX),
-        Subject::Around(number) => around(alloc, trace, kept, number),
-        Subject::Between { first, last } => between(alloc, trace, kept, first, last),
+        Subject::Around(number) => told_around(alloc, trace, number),
     }
+}
+
+// The events around this one, as many as have room.
+fn told_around(alloc: Global, trace: &Trace, number: u64) -> Result<Told, OutOfMemory> {
+    let events = trace.len() as u64;
+    let most = MOST_TOLD as u64;
+    let before = number
+        .saturating_sub(most / 2)
+        .min(events.saturating_sub(most));
+    let mut numbers = Vec::new(alloc);
+    for index in before..before.saturating_add(most).min(events) {
+        numbers.push(index.saturating_add(1))?;
+    }
+    let all = numbers.len() as u64;
+    Ok(Told { numbers, all })
 }
 
 // The slice of the assertion with this number, which the crash violates.

@@ -3,24 +3,26 @@
 use crate::telling::Telling;
 use pmt_pen::Pen;
 
-/// Adds the command that draws what the words of draw and the number name; the picture is named by the event.
-pub fn push_draw(pen: &mut Pen, told: &Telling<'_>, words: &str, named: u64, event: u64) {
-    pen.put("pmtrim draw ");
-    pen.fill(words, &[named]);
+/// Adds the command with its options, of which one has this number, the labels and the trace.
+pub fn push_command(pen: &mut Pen, told: &Telling<'_>, command: &str, number: u64) {
+    pen.fill(command, &[number]);
     if let Some(labels) = told.screen.labels {
         pen.put(" --labels ");
         push_word(pen, labels);
     }
-    if let Some(trace) = told.screen.trace {
-        pen.put(if trace.starts_with("-") { " -- " } else { " " });
-        push_word(pen, trace);
-    }
-    pen.fill(" > event#.svg\n", &[event]);
+    push_trace(pen, told);
+}
+
+/// Adds the file of the trace as the last word of a command; of standard input a word that stands for it.
+pub fn push_trace(pen: &mut Pen, told: &Telling<'_>) {
+    let trace = told.screen.trace.unwrap_or("TRACE");
+    pen.put(if trace.starts_with("-") { " -- " } else { " " });
+    push_word(pen, trace);
 }
 
 /// Adds the word as a shell reads it.
 pub fn push_word(pen: &mut Pen, word: &str) {
-    if is_plain_word(word) {
+    if word.as_bytes().iter().all(|byte| is_plain(*byte)) {
         pen.put(word);
         return;
     }
@@ -32,16 +34,6 @@ pub fn push_word(pen: &mut Pen, word: &str) {
         }
     }
     pen.put("'");
-}
-
-// Whether a shell takes the word as it is.
-fn is_plain_word(word: &str) -> bool {
-    for byte in word.as_bytes() {
-        if !is_plain(*byte) {
-            return false;
-        }
-    }
-    true
 }
 
 // Whether a shell takes the byte as it is.

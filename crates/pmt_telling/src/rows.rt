@@ -6,9 +6,6 @@ use unicode_width::UnicodeWidthChar;
 /// The most columns of a line.
 pub const WIDTH: u64 = 100;
 
-/// The columns before the further lines of what begins an entry, as `error: `.
-pub const HEAD: u64 = 7;
-
 /// Adds the text as a line, cut where it has too many columns.
 pub fn push_line(pen: &mut Pen, text: &Pen) {
     pen.share(text);
@@ -18,31 +15,22 @@ pub fn push_line(pen: &mut Pen, text: &Pen) {
 
 /// Adds the text as lines of whole words, of which all but the first begin with so many spaces. A word that no line has room for is cut.
 pub fn push_wrapped(pen: &mut Pen, text: &Pen, columns: u64) {
-    let _used = push_broken(pen, text, columns);
-    pen.put("\n");
-}
-
-/// Adds these lines, and leaves the last one open; and tells how many columns that takes.
-pub fn push_broken(pen: &mut Pen, text: &Pen, columns: u64) -> u64 {
     pen.share(text);
     let room = WIDTH.saturating_sub(columns);
     let mut used = 0u64;
-    let mut is_first = true;
-    for word in text.as_str().split(' ') {
+    for (index, word) in text.as_str().split(' ').enumerate() {
         let with_word = used.saturating_add(width_of(word).min(room));
-        if is_first {
-            is_first = false;
-        } else if with_word >= WIDTH {
+        if index > 0 && with_word >= WIDTH {
             pen.put("\n");
             push_spaces(pen, columns);
             used = columns;
-        } else {
+        } else if index > 0 {
             pen.put(" ");
             used = used.saturating_add(1);
         }
         used = used.saturating_add(push_cut(pen, word, room));
     }
-    used
+    pen.put("\n");
 }
 
 /// Adds the text, or as much of it as has room in so many columns, with a mark that some is missing; and tells how many it took.
@@ -78,13 +66,19 @@ pub fn push_spaces(pen: &mut Pen, count: u64) {
     }
 }
 
+/// How many lines the text has.
+pub fn lines_of(text: &Pen) -> usize {
+    let bytes = text.as_str().as_bytes().iter();
+    bytes.filter(|byte| **byte == b'\n').count()
+}
+
 /// How many columns the text takes.
 pub fn width_of(text: &str) -> u64 {
-    let mut width = 0u64;
-    for letter in text.chars() {
-        width = width.saturating_add(letter_width(letter));
-    }
-    width
+    let letters = text.chars();
+    letters.fold(
+        0u64,
+        |width, letter| width.saturating_add(letter_width(letter)),
+    )
 }
 
 // How many columns the letter takes.

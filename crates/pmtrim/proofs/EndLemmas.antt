@@ -1,16 +1,15 @@
 -- What a run told of a lent writer, told of what that writer holds.
 use Rattle.std.proofs.Common.{◌≡◌, ℕ, Bool, List, take, Option, Some, None, Result, Ok, Err, refl, sym, subst, inl, inr}
-use Rattle.std.specs.Prelude.{IfOk, MatchResult}
+use Rattle.std.specs.Prelude.{MatchResult}
 use Rattle.std.specs.Io.KnownBytes.{Keeps}
 use Rattle.pmt_model.specs.Traces.{Recording}
-use Rattle.pmt_text.specs.Coming.{Coming, ComesWhole}
+use Rattle.pmt_text.specs.Coming.{Coming}
 use Rattle.pmt_trimming.specs.declared.stream_error.StreamError.{StreamError}
 use Rattle.pmt_trimming.specs.declared.stream_error.StreamError.TheVariants as streams
 use Rattle.pmt_trimming.specs.Streaming.{SourceRun, Streams, Writes, WritesFirst}
-use Rattle.pmt_analysis.specs.Analysing.{Analysed, IsAnalysed}
 use Rattle.pmt_report.specs.declared.fault.RunError.{RunError}
 use Rattle.pmt_report.specs.declared.fault.RunError.TheVariants.{BadWorkers, Text, TooMany, Read, PastEnd, OutOfMemory, Write}
-use Rattle.pmt_report.specs.Checks.{IsReportOf, TellsCheck, has_failed}
+use Rattle.pmt_report.specs.Checks.{IsReportOf, TellsCheck}
 use Rattle.pmt_report.specs.Faults.{run_status}
 use Rattle.pmt_report.specs.Runs.{IsAnalysisFault, Runs}
 use Rattle.command_inputs.specs.declared.fault.Fault.{Fault}
@@ -97,25 +96,3 @@ pub stream-refused : (coming : Option Coming) (known : Option (List ℕ)) (r : R
 stream-refused coming known r is =
     subst (λ x. EndsStream coming known known (end_status x)) (sym is)
     (Err streams.OutOfMemory, (record { coming = coming; before = 0; after = 0; format = None }, refl, inl (keeps-same known, refl)), inl refl)
-
--- ---- A check of which nothing is asked but the status
-
-untold : (coming : Option Coming) (old new : Option (List ℕ)) (r : Result Bool RunError) → TellsCheck coming old new r → TellsCheck coming None None r
-untold coming old new (Ok failed) w = record { analysis = w.analysis; right = w.right; all = w.all; written = tt; judged = w.judged }
-untold coming old new (Err BadWorkers) w = (w.0, tt)
-untold coming old new (Err (Text f)) w = (w.0, tt)
-untold coming old new (Err TooMany) w = (w.0, tt)
-untold coming old new (Err Read) w = (w.0, tt)
-untold coming old new (Err (PastEnd events)) w = (w.0, tt)
-untold coming old new (Err OutOfMemory) w = (w.0, tt)
-untold coming old new (Err (Write written)) w = (w.0, w.1, tt, w.3)
-
-status-alone : (coming : Option Coming) (old new : Option (List ℕ)) (status : ℕ) → EndsCheck coming old new status → EndsCheck coming None None status
-status-alone coming old new status w = (w.0, untold coming old new w.0 w.1, w.2)
-
-pub judged-ok : (coming : Option Coming) (old new : Option (List ℕ)) (r : Result ℕ Fault) → EndsCheck coming old new (end_status r) → IfOk r (EndsCheck coming None None)
-judged-ok coming old new (Ok status) w = status-alone coming old new status w
-judged-ok coming old new (Err fault) w = tt
-
-pub judged-alone : (coming : Option Coming) (a : Analysed) (status : ℕ) → IsAnalysed a → ComesWhole coming a.trace → status ≡ failed_status (has_failed a) → EndsCheck coming None None status
-judged-alone coming a status right all s = (Ok (has_failed a), record { analysis = a; right = right; all = all; written = tt; judged = refl }, s)

@@ -17,6 +17,8 @@ use Rattle.pmt_report.specs.Faults.{run_fault, run_status}
 use Rattle.pmt_report.specs.Runs.{IsAnalysisFault, IsFrontsAt, IsFrontsFault, Runs, coming_from_reader}
 use Rattle.command_requests.specs.declared.request.Request.{Request}
 use Rattle.command_requests.specs.declared.request.Request.TheVariants as asked
+use Rattle.command_requests.specs.declared.request.Run.{Run}
+use Rattle.command_requests.specs.declared.request.Run.TheVariants as runs
 use Rattle.command_inputs.specs.declared.fault.Fault.{Fault}
 use Rattle.command_inputs.specs.Faults.{IsToldAs, fault_status}
 
@@ -59,6 +61,12 @@ StreamsOf coming old new told = (run : SourceRun) × (run.coming ≡ coming) × 
 abbrev pub EndsStream : Option Coming → Option (List ℕ) → Option (List ℕ) → ℕ → Type 0
 EndsStream coming old new = EndsAs (StreamsOf coming old new) (λ u. 0) (λ e. run_status (stream_fault e))
 
+abbrev pub EndsRun : Run → Option Coming → Option (List ℕ) → Option (List ℕ) → ℕ → Type 0
+EndsRun runs.Check coming old new status = EndsCheck coming old new status
+EndsRun runs.Trim coming old new status = EndsTrim coming old new status
+EndsRun runs.Stream coming old new status = EndsStream coming old new status
+EndsRun (runs.Fronts place) coming old new status = EndsFronts place coming old new status
+
 -- ---- Of scripts
 
 -- The text is that of a trace which so many scripts record.
@@ -78,11 +86,7 @@ Records count old new (Err fault) = Keeps old new ⊎ ((text : List ℕ) × (wri
 
 -- What is out, and the status, where these are the bytes of standard input, which is read. Of other commands nothing is said here.
 abbrev pub Answers : Request → Option (List ℕ) → Option (List ℕ) → Option (List ℕ) → ℕ → Type 0
-Answers (asked.Check words) bytes old new status =
-    words.trace.file ≡ None → words.labels ≡ None → words.limit ≡ None → words.quiet ≡ false → EndsCheck (coming_from_reader bytes) old new status
-Answers (asked.Trim words) bytes old new status = words.file ≡ None → EndsTrim (coming_from_reader bytes) old new status
-Answers (asked.Stream words) bytes old new status = words.file ≡ None → EndsStream (coming_from_reader bytes) old new status
-Answers (asked.Fronts words) bytes old new status = words.file ≡ None → EndsFronts words.place (coming_from_reader bytes) old new status
+Answers (asked.Run words) bytes old new status = words.file ≡ None → EndsRun words.run (coming_from_reader bytes) old new status
 Answers (asked.Show text) bytes old new status = Unit {0}
 Answers (asked.Explain words) bytes old new status = Unit {0}
 Answers (asked.Draw drawing) bytes old new status = Unit {0}

@@ -93,12 +93,6 @@ fn take<L: Roll>(tapes: &mut Vec<Tape<L>>) -> Result<Tape<L>> {
     }
 }
 
-// Puts the tape of a thread that has worked to the others.
-fn put<L: Roll>(tapes: &mut Vec<Tape<L>>, worked: Result<Tape<L>>) -> Result<()> {
-    tapes.push(worked?)?;
-    Ok(())
-}
-
 // Both threads work, and hand their tapes back.
 fn run<L: Roll + Send + Sync, R: Threads + Wait + Sync>(
     rt: &R,
@@ -108,8 +102,9 @@ fn run<L: Roll + Send + Sync, R: Threads + Wait + Sync>(
     let second = take(tapes)?;
     let first = take(tapes)?;
     let (first, second) = work_both(rt, session, first, second);
-    put(tapes, first)?;
-    put(tapes, second)
+    tapes.push(first?)?;
+    tapes.push(second?)?;
+    Ok(())
 }
 
 // The trace of the session.
@@ -136,43 +131,22 @@ fn record<L: Roll + Send + Sync, R: Threads + Wait + Sync>(
     sealed(session, tapes)
 }
 
-// How many claims there are, and how many of them pass.
-fn claims(analysis: &Analysis) -> (usize, usize) {
+// What checking and trimming the trace comes to.
+fn tell(rt: &HostRuntime, analysis: &Analysis) -> Result<()> {
     let verdicts = analysis.verdicts();
+    let claims = verdicts.len();
     let passed = verdicts.iter().filter(|verdict| verdict.pass).count();
-    (verdicts.len(), passed)
-}
-
-fn tell_recorded(rt: &HostRuntime, events: usize) -> Result<()> {
-    println!(rt; "recorded {events} events")?;
-    Ok(())
-}
-
-fn tell_found(rt: &HostRuntime, claims: (usize, usize), findings: usize) -> Result<()> {
-    let (all, passed) = claims;
-    println!(rt; "{all} claims, of which {passed} pass; {findings} findings")?;
-    Ok(())
-}
-
-fn tell_trimmed(rt: &HostRuntime, events: usize) -> Result<()> {
+    let findings = analysis.findings().len();
+    println!(rt; "{claims} claims, of which {passed} pass; {findings} findings")?;
+    let events = trimmed(analysis)?.len();
     println!(rt; "the trimmed trace has {events} events")?;
     Ok(())
 }
 
-// The analysis of the trace.
-fn analysed<R: Threads + Sync>(rt: &R, alloc: Global, trace: &Trace) -> Result<Analysis> {
-    Ok(analyse_with(rt, alloc, &NoGate, &mut ListSource::new(trace), 2)?)
-}
-
-// What checking and trimming the trace comes to.
-fn tell(rt: &HostRuntime, analysis: &Analysis) -> Result<()> {
-    tell_found(rt, claims(analysis), analysis.findings().len())?;
-    tell_trimmed(rt, trimmed(analysis)?.len())
-}
-
 fn main(rt: HostRuntime) -> Result<()> {
     let trace = record::<Brand, HostRuntime>(&rt, rt.alloc(), Blank::new(256))?;
-    tell_recorded(&rt, trace.len())?;
-    let analysis = analysed(&rt, rt.alloc(), &trace)?;
+    let events = trace.len();
+    println!(rt; "recorded {events} events")?;
+    let analysis = analyse_with(&rt, rt.alloc(), &NoGate, &mut ListSource::new(&trace), 2)?;
     tell(&rt, &analysis)
 }

@@ -3,7 +3,7 @@
 ghost use Rattle.std.specs.Prelude.{◌≡◌};
 ghost use Rattle.pmt_model.specs.Formats.{first_version};
 
-use crate::stop::{Stop, gave, worst};
+use crate::stop::{Stop, gave, refused, worst};
 use pmt_book::Book;
 use pmt_model::{Event, Op};
 use pmt_recorder::{Roll, Session, Snapshot, Tape};
@@ -54,17 +54,15 @@ fn totals(book: &Book) -> (u64, u64) {
 
 // Pushes the event with this number. Where that is refused, the book is as before, and takes the event then.
 fn push_again(book: &mut Book, number: u64) -> Result<(), Stop> {
-    let wanted = event_of(number);
-    let Some(event) = &wanted else {
+    let Some(event) = event_of(number) else {
         return Err(Stop::Wrong(BOOK));
     };
     let before = (book.len(), totals(book));
-    if let Ok(given) = book.push_event(*event) {
+    if let Ok(given) = book.push_event(event) {
         return gave(BOOK, given == number);
     }
     let is_same = (book.len(), totals(book)) == before;
-    gave(BOOK, is_same && book.push_event(*event) == Ok(number))?;
-    Err(Stop::Refused(BOOK))
+    refused(BOOK, is_same && book.push_event(event) == Ok(number))
 }
 
 /// Each push adds its event under the next number.
@@ -106,11 +104,10 @@ fn append_again<L: Roll, R: Wait>(
         return gave(APPEND, tape.get(len) == Some((number, *op)));
     }
     let is_same = tape.len() == len && session.snapshot(rt, tape).is_ok();
-    gave(APPEND, is_same && session.append(rt, tape, *op).is_ok())?;
-    Err(Stop::Refused(APPEND))
+    refused(APPEND, is_same && session.append(rt, tape, *op).is_ok())
 }
 
-// A snapshot, taken again where it is refused.
+// A snapshot, taken again where it is refused; none where it is refused again.
 fn snapshot_again<L: Roll, R: Wait>(
     rt: &R,
     session: &Session<L>,
@@ -118,10 +115,7 @@ fn snapshot_again<L: Roll, R: Wait>(
 ) -> (Option<Snapshot>, Result<(), Stop>) {
     match session.snapshot(rt, tape) {
         Ok(snapshot) => (Some(snapshot), Ok(())),
-        Err(_) => match session.snapshot(rt, tape) {
-            Ok(snapshot) => (Some(snapshot), Err(Stop::Refused(LOOK))),
-            Err(_) => (None, Err(Stop::Wrong(LOOK))),
-        },
+        Err(_) => (session.snapshot(rt, tape).ok(), Err(Stop::Refused(LOOK))),
     }
 }
 
@@ -158,22 +152,13 @@ fn take_turn<L: Roll, R: Wait>(
     if turn % 8 != 0 {
         return appended;
     }
-    worst(appended, look(rt, session, part, turn))
-}
-
-fn look<L: Roll, R: Wait>(
-    rt: &R,
-    session: &Session<L>,
-    part: &mut Part<L>,
-    turn: usize,
-) -> Result<(), Stop> {
-    let (seen, ended) = snapshot_again(rt, session, &part.tape);
+    let (seen, looked) = snapshot_again(rt, session, &part.tape);
     if let (Some(snapshot), Some((number, _))) = (&seen, part.tape.get(turn)) {
         let last = last_of(snapshot.book().events(), part.tape.thread());
         gave(LOOK, last == number)?;
     }
     part.seen = seen;
-    ended
+    worst(appended, looked)
 }
 
 // A thread's appends.
@@ -224,29 +209,6 @@ fn has_part<L: Roll>(book: &Book, part: &Part<L>) -> bool {
     }
 }
 
-// Puts the thread's tape to the others.
-fn put<L: Roll>(tapes: &mut Vec<Tape<L>>, part: Part<L>) -> Result<(), Stop> {
-    let Part { tape, ended, .. } = part;
-    gave(START, tapes.push(tape).is_ok())?;
-    ended
-}
-
-// Both threads append by the tapes, and hand them back. What stands in the session then, and how the calls ended.
-fn run<L: Roll + Send + Sync, R: Threads + Wait + Sync>(
-    rt: &R,
-    session: &Session<L>,
-    tapes: &mut Vec<Tape<L>>,
-) -> (Option<Snapshot>, Result<(), Stop>) {
-    let (Some(second), Some(first)) = (tapes.pop(), tapes.pop()) else {
-        return (None, Err(Stop::Wrong(START)));
-    };
-    let (first, second) = work_both(rt, session, first, second);
-    let (whole, ended) = snapshot_again(rt, session, &first.tape);
-    let right = gave(APPEND, has_both(&whole, &first, &second));
-    let put_back = worst(put(tapes, first), put(tapes, second));
-    (whole, worst(right, worst(ended, put_back)))
-}
-
 // Whether the snapshot has what both threads have appended, and no more.
 fn has_both<L: Roll>(whole: &Option<Snapshot>, first: &Part<L>, second: &Part<L>) -> bool {
     match whole {
@@ -266,15 +228,24 @@ fn is_sealed<L: Roll>(session: Session<L>, tapes: Vec<Tape<L>>, whole: &Option<S
     }
 }
 
-// Two threads append in the session, which is sealed then.
+// Two threads append in the session, and hand their tapes back; it is sealed then.
 fn recorded<L: Roll + Send + Sync, R: Threads + Wait + Sync>(
     rt: &R,
     session: Session<L>,
     tapes: Vec<Tape<L>>,
 ) -> Result<(), Stop> {
     let mut tapes = tapes;
-    let (whole, ended) = run(rt, &session, &mut tapes);
-    gave(START, is_sealed(session, tapes, &whole))?;
+    let (Some(second), Some(first)) = (tapes.pop(), tapes.pop()) else {
+        return Err(Stop::Wrong(START));
+    };
+    let (first, second) = work_both(rt, &session, first, second);
+    let (whole, looked) = snapshot_again(rt, &session, &first.tape);
+    gave(APPEND, has_both(&whole, &first, &second))?;
+    let ended = worst(looked, worst(first.ended, second.ended));
+    let Part { tape: first, .. } = first;
+    let Part { tape: second, .. } = second;
+    let are_back = tapes.push(first).is_ok() && tapes.push(second).is_ok();
+    gave(START, are_back && is_sealed(session, tapes, &whole))?;
     ended
 }
 

@@ -1,6 +1,6 @@
 //! Recording scripts.
 
-use crate::stop::{Stop, gave, worst};
+use crate::stop::{Stop, gave, given, worst};
 use pmt_model::{Gate, Op, Trace};
 use pmt_recorder::{RecordError, record_scripts};
 use std::alloc::{AllocError, Global};
@@ -73,11 +73,9 @@ fn plays(trace: &Trace, script: usize) -> bool {
 
 // Records the scripts.
 fn recorded<R: Threads + Wait + Sync>(rt: &R, alloc: Global, gate: &Entries) -> Result<(), Stop> {
-    match record_scripts(rt, alloc, gate, scripts_of(alloc)?) {
-        Ok(trace) => gave(RECORD, plays_all(&trace, gate.seen())),
-        Err(RecordError::OutOfMemory) => Err(Stop::Refused(RECORD)),
-        Err(_) => Err(Stop::Wrong(RECORD)),
-    }
+    let answer = record_scripts(rt, alloc, gate, scripts_of(alloc)?);
+    let trace = given(RECORD, answer, RecordError::OutOfMemory)?;
+    gave(RECORD, plays_all(&trace, gate.seen()))
 }
 
 // Whether the trace has all scripts, and no more, after each recorder entered before its first append and after each.

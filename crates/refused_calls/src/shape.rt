@@ -1,7 +1,7 @@
 //! Traces whose answers are known by how they are made.
 ghost use Rattle.std.specs.Prelude.{◌<◌};
 
-use crate::stop::Stop;
+use crate::stop::{Stop, given};
 use pmt_model::{Finding, Selection, Trace, Verdict};
 use pmt_text::{ReadError, read_trace};
 use std::alloc::{AllocError, Global};
@@ -19,11 +19,8 @@ impl Shape {
     /// The trace.
     pub fn trace(self, alloc: Global) -> Result<Trace, Stop> {
         let text = self.text(alloc)?;
-        match read_trace(alloc, text.as_bytes()) {
-            Ok(trace) => Ok(trace),
-            Err(ReadError::OutOfMemory) => Err(Stop::Refused("read_trace")),
-            Err(_) => Err(Stop::Wrong("read_trace")),
-        }
+        let answer = read_trace(alloc, text.as_bytes());
+        given("read_trace", answer, ReadError::OutOfMemory)
     }
 
     // Its text.

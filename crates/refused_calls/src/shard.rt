@@ -8,7 +8,7 @@ ghost use Rattle.pmt_workers.specs.Results.{result_in, kept_in};
 
 use crate::lines::is_apart;
 use crate::shape::Shape;
-use crate::stop::{Stop, gave};
+use crate::stop::{Stop, gave, given};
 use pmt_asserts::{Tables, verdicts};
 use pmt_findings::findings;
 use pmt_lines::{Jobs, LineJob, LineResult, ThreadJob, ThreadResult, run_fences, split_trace};
@@ -74,10 +74,8 @@ fn taken_apart(
 fn keep(alloc: Global, trace: &Trace, lists: &[Vec<u64>], shape: Shape) -> Result<(), Stop>
     requires { AreAllKept trace.now (map (λ kept. kept.items) lists.now) }
 {
-    match liveness(alloc, trace, lists) {
-        Ok(selection) => gave("liveness", shape.has_kept(&selection)),
-        Err(_) => Err(Stop::Refused("liveness")),
-    }
+    let selection = given("liveness", liveness(alloc, trace, lists), AllocError)?;
+    gave("liveness", shape.has_kept(&selection))
 }
 
 fn fence(
@@ -86,14 +84,10 @@ fn fence(
     fences: ThreadJob,
     shape: Shape,
 ) -> Result<(), Stop> {
-    let Ok(threads) = run_fences(alloc, fences) else {
-        return Err(Stop::Refused("run_fences"));
-    };
+    let threads = given("run_fences", run_fences(alloc, fences), AllocError)?;
     gave("run_fences", threads.empty().len() == 1)?;
-    match findings(alloc, results, &threads) {
-        Ok(found) => gave("findings", shape.has_found(found.as_slice())),
-        Err(_) => Err(Stop::Refused("findings")),
-    }
+    let found = given("findings", findings(alloc, results, &threads), AllocError)?;
+    gave("findings", shape.has_found(found.as_slice()))
 }
 
 fn judge<R: Threads + Sync>(
@@ -108,8 +102,6 @@ fn judge<R: Threads + Sync>(
     let Ok(tables) = Tables::merge(alloc, results) else {
         return Err(Stop::Refused("Tables::merge"));
     };
-    match verdicts(rt, alloc, &tables, trace) {
-        Ok(all) => gave("verdicts", shape.has_judged(all.as_slice())),
-        Err(_) => Err(Stop::Refused("verdicts")),
-    }
+    let all = given("verdicts", verdicts(rt, alloc, &tables, trace), AllocError)?;
+    gave("verdicts", shape.has_judged(all.as_slice()))
 }

@@ -1,6 +1,6 @@
 //! Calls on one thread: stores, traces, lines and sources.
 
-use crate::stop::{Stop, gave, worst};
+use crate::stop::{Stop, gave, given, refused, worst};
 use pmt_marks::LineState;
 use pmt_model::{Event, Op, SplitStoreError, Trace, split_store};
 use pmt_text::devices::PieceReader;
@@ -29,11 +29,9 @@ fn are_two_pieces(pieces: &[Op]) -> bool {
 
 /// A store of four bytes is cut where a word ends.
 pub fn split(alloc: Global) -> Result<(), Stop> {
-    match split_store(alloc, 0x1006, &[1, 2, 3, 4]) {
-        Ok(pieces) => gave(SPLIT, are_two_pieces(pieces.as_slice())),
-        Err(SplitStoreError::OutOfMemory) => Err(Stop::Refused(SPLIT)),
-        Err(_) => Err(Stop::Wrong(SPLIT)),
-    }
+    let answer = split_store(alloc, 0x1006, &[1, 2, 3, 4]);
+    let pieces = given(SPLIT, answer, SplitStoreError::OutOfMemory)?;
+    gave(SPLIT, are_two_pieces(pieces.as_slice()))
 }
 
 fn fence_by(thread: u8) -> Event {
@@ -49,11 +47,8 @@ fn push_again(trace: &mut Trace, thread: u8) -> Result<(), Stop> {
     if trace.push(fence_by(thread)).is_ok() {
         return Ok(());
     }
-    gave(
-        PUSH,
-        trace.len() == len && trace.push(fence_by(thread)).is_ok(),
-    )?;
-    Err(Stop::Refused(PUSH))
+    let is_same = trace.len() == len;
+    refused(PUSH, is_same && trace.push(fence_by(thread)).is_ok())
 }
 
 /// Each push adds its event.
@@ -85,11 +80,8 @@ fn flush_again(line: &mut LineState, thread: u8) -> Result<(), Stop> {
     if line.on_flush(thread).is_ok() {
         return Ok(());
     }
-    gave(
-        FLUSH,
-        is_flushed_below(line, thread) && line.on_flush(thread).is_ok(),
-    )?;
-    Err(Stop::Refused(FLUSH))
+    let is_same = is_flushed_below(line, thread);
+    refused(FLUSH, is_same && line.on_flush(thread).is_ok())
 }
 
 /// Each flush of a line marks its one store.
@@ -120,9 +112,11 @@ pub fn next(alloc: Global) -> Result<(), Stop> {
     match count_events(&mut source) {
         Ok(count) => gave(NEXT, count == 3),
         Err(SourceError::OutOfMemory) => {
-            gave(NEXT, source.next() == Err(SourceError::Failed))?;
-            gave(NEXT, source.format() == Err(SourceError::Failed))?;
-            Err(Stop::Refused(NEXT))
+            let has_failed = source.next() == Err(SourceError::Failed);
+            refused(
+                NEXT,
+                has_failed && source.format() == Err(SourceError::Failed),
+            )
         }
         Err(_) => Err(Stop::Wrong(NEXT)),
     }

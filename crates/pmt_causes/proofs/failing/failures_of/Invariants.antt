@@ -1,6 +1,5 @@
-use Rattle.std.proofs.Common.{◌≡◌, length, take}
+use Rattle.std.proofs.Common.{take}
 use Rattle.pmt_causes.specs.FailureKeys.{AreKeyed}
-use Rattle.pmt_causes.specs.Losing.{AreLosing}
 use Rattle.pmt_causes.specs.Writers.{AreAllWriters}
 use Rattle.pmt_causes.proofs.failing.failures_of.Given as goal
 
@@ -8,6 +7,4 @@ abbrev pub invariant-loop-number : goal.invariant-loop-number
 invariant-loop-number l = record {
   writers : AreAllWriters l.trace l.writers;
   keyed : AreKeyed l.trace l.labels (take l.number-index l.numbers) l.items.items;
-  size : length l.lost.items ≡ length l.trace.events;
-  losing : AreLosing l.trace l.items.items l.lost.items;
 }

@@ -2,8 +2,8 @@ use Rattle.std.proofs.Common.{rules, ◌≡◌, true, false, List, ◌++◌, ℕ
 use Rattle.std.specs.List.{flat_map}
 use Rattle.pmt_explain_json.specs.Hints.{hint_line}
 use Rattle.pmt_explain_json.specs.Places.{place_line}
-use Rattle.pmt_explain_json.specs.Tables.{label_line, late_line, table_lines, thread_line}
-use Rattle.pmt_explain_json.proofs.Pushing.{pushed-6}
+use Rattle.pmt_explain_json.specs.Tables.{late_line, table_lines}
+use Rattle.pmt_explain_json.proofs.Pushing.{pushed-4}
 use Rattle.pmt_explain_json.proofs.tables.push_tables.Goals as goal
 
 pub returns : goal.returns
@@ -15,14 +15,10 @@ returns c =
     let old : List ℕ = c.args.text.now.items in
     let p : List ℕ = flat_map (place_line T labels false) (take x.limit x.places.items) in
     let w : List ℕ = flat_map (place_line T labels true) (take x.limit x.left_paths.items) in
-    let k : List ℕ = flat_map (hint_line T labels) (take x.limit x.hints.items) in
+    let k : List ℕ = flat_map (hint_line T labels) (take x.limit x.asked_hints.items) in
     let a : List ℕ = flat_map (late_line T labels) (take x.limit x.late.items) in
-    let b : List ℕ = flat_map thread_line (take x.limit x.threads.items) in
-    let d : List ℕ = flat_map (label_line labels) (take x.limit x.labelled.items) in
     let h0 : c.push_places.new.text.items ≡ old ++ p = search rules in
     let h5 : c.push_places-2.new.text.items ≡ c.push_places.new.text.items ++ w = search rules in
     let h4 : c.push_hints.new.text.items ≡ c.push_places-2.new.text.items ++ k = search rules in
     let h1 : c.push_late_groups.new.text.items ≡ c.push_hints.new.text.items ++ a = search rules in
-    let h2 : c.push_thread_rows.new.text.items ≡ c.push_late_groups.new.text.items ++ b = search rules in
-    let h3 : c.push_label_rows.new.text.items ≡ c.push_thread_rows.new.text.items ++ d = search rules in
-    pushed-6 old _ _ _ _ _ _ p w k a b d h0 h5 h4 h1 h2 h3
+    pushed-4 old _ _ _ _ p w k a h0 h5 h4 h1

@@ -1,5 +1,4 @@
 use Rattle.std.proofs.Common.{◌≡◌, subst, sym, take, map}
-use Rattle.pmt_causes.specs.Inside.{AreInside}
 use Rattle.pmt_explanation.specs.Causing.{first_members}
 use Rattle.pmt_failures.specs.declared.failures.ShownFailure.{ShownFailure}
 use Rattle.pmt_explanation.proofs.CausingLemmas.{shown-firsts}
@@ -9,11 +8,11 @@ pub returns-clause-explained : goal.returns-clause-explained
 returns-clause-explained c = λ labels o p same.
     let T = c.args.analysis.trace in
     let parts = c.args.parts in
-    let failed = parts.found.risks.broken.failed in
-    let firsts = p.found.firsts in
+    let failed = parts.found.begun.risks.broken.failed in
+    let firsts = p.found.begun.firsts in
     let drops = p.found.drops in
-    let lost = p.found.risks.lost in
-    let broken = p.found.risks.broken in
+    let lost = p.found.begun.risks.lost in
+    let broken = p.found.begun.risks.broken in
     let shown = shown-firsts T parts.frames.items failed.asked.items failed.causes.items o.limit failed.shown.items broken.causes broken.shown in
     record {
       failing = broken.failing;
@@ -21,10 +20,12 @@ returns-clause-explained c = λ labels o p same.
       label_numbers = p.label_numbers;
       frames = p.frames;
       places = p.found.table.places;
+      paths = p.found.table.paths;
       left_paths = p.found.table.left_paths;
-      hints = p.found.hints;
+      hints = p.found.told.hints;
+      asked_hints = p.found.told.asked;
+      entries = p.found.told.entries;
       causes = broken.causes;
-      counts = subst (λ k. AreInside T parts.frames.items parts.label_numbers.items (take k failed.causes.items) failed.counts.items) (sym same) broken.counts;
       failures = broken.shown.each;
       shown = subst (λ k. map (λ (s : ShownFailure). s.event) failed.shown.items ≡ take k (first_members failed.causes.items)) (sym same) shown;
       stores = lost.stores;
@@ -35,8 +36,6 @@ returns-clause-explained c = λ labels o p same.
       dropped_groups = drops.groups;
       late = firsts.late;
       waited = firsts.waited;
-      threads = p.found.rows.threads;
-      labelled = p.found.rows.labelled;
       overwritten = broken.overwritten;
       unwritten = lost.unwritten;
       ignored_stores = lost.ignored;

@@ -13,13 +13,13 @@ returns g c =
     let o = c.args.options.now in
     let firsts : IfOk c.join_mut-firsts.result.0 (AreFirsts a labels frames o) = search rules in
     let lost : IfOk c.join_mut-firsts.result.1.0.0 (AreLost a labels frames o) = search rules in
-    let early : IfOk c.join_mut-firsts.result.1.0.1 (AreEarly a.trace labels frames numbers o.choice) = search rules in
-    let broken : IfOk c.join_mut-firsts.result.1.1 (AreBroken a labels numbers frames o) = search rules in
+    let early : IfOk c.join_mut-firsts.result.1.0.1 (AreEarly a.trace frames numbers) = search rules in
+    let broken : IfOk c.join_mut-firsts.result.1.1 (AreBroken a labels frames o) = search rules in
     record {
       firsts = subst (λ r. IfOk r (AreFirsts a labels frames o)) c.in_ok-firsts.was firsts;
       risks = record {
         lost = subst (λ r. IfOk r (AreLost a labels frames o)) c.in_ok-lost.was lost;
-        broken = subst (λ r. IfOk r (AreBroken a labels numbers frames o)) c.in_ok-broken.was broken;
+        broken = subst (λ r. IfOk r (AreBroken a labels frames o)) c.in_ok-broken.was broken;
       };
-      early = subst (λ r. IfOk r (AreEarly a.trace labels frames numbers o.choice)) c.in_ok-early.was early;
+      early = subst (λ r. IfOk r (AreEarly a.trace frames numbers)) c.in_ok-early.was early;
     }

@@ -1,7 +1,6 @@
 use Rattle.std.proofs.Common.{◌≡◌, take, subst, ap, ◌∙◌}
 use Rattle.pmt_model.specs.Traces.{Recording}
 use Rattle.pmt_causes.specs.FailureKeys.{AreFailureGroups}
-use Rattle.pmt_causes.specs.Inside.{AreInside}
 use Rattle.pmt_asked.specs.declared.choosing.Kind.TheVariants as kinds
 use Rattle.pmt_explanation.specs.Asking.{asked_numbers}
 use Rattle.pmt_explanation.specs.Causing.{first_members}
@@ -17,10 +16,9 @@ returns c =
     let f = c.in_ok-failed.failed in
     let failed = c.in_ok-failed.ensures in
     record {
-      failing = failed.failing ∙ ap failing_events c.verdicts.ensures.value;
+      failing = failed.failing ∙ ap failing_events c.verdicts-verdicts.ensures.value;
       asked_failing = subst (λ (T : Recording). f.asked.items ≡ asked_numbers T labels o.choice kinds.Failure f.failing.items) c.requires failed.asked;
       causes = subst (λ (T : Recording). AreFailureGroups T frames f.asked.items f.causes.items) c.requires failed.causes;
-      counts = subst (λ (T : Recording). AreInside T frames c.args.numbers.now (take o.limit f.causes.items) f.counts.items) c.requires failed.counts;
       shown = subst (λ (T : Recording). AreShown T (take o.limit (first_members f.causes.items)) f.shown.items) c.requires failed.shown;
       overwritten = c.in_ok-overwrites.ensures.groups;
       ignored_pairs = c.in_ok-overwrites.ensures.ignored;

@@ -1,0 +1,4 @@
+pub mod LossLemmas
+pub mod ScratchLemmas
+pub mod SignLemmas
+pub mod SiteLemmas

@@ -1,0 +1,8 @@
+use Rattle.std.proofs.Common.{◌≡◌, ℕ, take}
+use Rattle.std.specs.List.{list_any}
+use Rattle.pmt_hints.specs.Claiming.{claim_at, or_so}
+use Rattle.pmt_entries.specs.Scratch.{event_touches}
+use Rattle.pmt_entries.proofs.scratch.note_events.Given as goal
+
+abbrev pub invariant-loop-index : goal.invariant-loop-index
+invariant-loop-index l = (m : ℕ) → claim_at l.lines m ≡ or_so (list_any (event_touches l.trace.format m) (take l.index l.trace.events)) (claim_at l.initial.lines m)

@@ -1,8 +1,0 @@
-use Rattle.std.proofs.Common.{◌≡◌, ◌++◌, drop}
-use Rattle.std.specs.List.{flat_map}
-use Rattle.pmt_explain_json.specs.Tables.{label_line}
-use Rattle.pmt_explain_json.proofs.tables.push_label_rows.Given as goal
-
-abbrev pub invariant-loop-row : goal.invariant-loop-row
-invariant-loop-row l =
-    l.text.items ++ flat_map (label_line l.labels) (drop l.row-index l.rows) ≡ l.initial.text.items ++ flat_map (label_line l.labels) l.rows

@@ -1,0 +1,169 @@
+//! By way of which caller a site goes wrong, where by others it does not.
+
+use pmt_entries::Site;
+use pmt_fates::PlaceRow;
+use pmt_model::OutOfMemory;
+use pmt_pen::Pen;
+use pmt_telling::{Telling, Told, frame_at, frames_up_to, push_call, push_spot};
+
+// The most callers of a path that are compared.
+const DEEPEST: usize = 64;
+
+// So many of so many.
+#[derive(Clone, Copy)]
+struct Share {
+    part: u64,
+    all: u64,
+}
+
+impl Share {
+    // Adds these.
+    fn add(&mut self, part: u64, all: u64) {
+        self.part = self.part.saturating_add(part);
+        self.all = self.all.saturating_add(all);
+    }
+}
+
+// Nothing of nothing.
+const EMPTY: Share = Share { part: 0, all: 0 };
+
+// What becomes of what comes by way of a caller, and of what comes by others.
+#[derive(Clone, Copy)]
+struct Split<'a> {
+    frame: &'a str,
+    own: Share,
+    others: Share,
+}
+
+// Adds what becomes of both, by these forms.
+fn push_split(pen: &mut Pen, told: &Telling<'_>, split: &Split<'_>, own: &str, others: &str) {
+    pen.put("by ");
+    push_call(pen, split.frame);
+    told.say(pen, own, &[split.own.part, split.own.all]);
+    pen.put("; by other callers");
+    told.say(pen, others, &[split.others.part, split.others.all]);
+}
+
+// Adds by way of which caller the site of an entry of so many misses stores, where others save all; or else how many it misses.
+pub(crate) fn add_contrast<'a>(
+    told: &Telling<'a>,
+    site: &Site,
+    sites: usize,
+    entry: &mut Told<'a>,
+) -> Result<(), OutOfMemory> {
+    let rows = told.explanation.paths.iter();
+    let paths: Vec<&PlaceRow> = rows
+        .filter(|row| told.origin(row.first) == site.row.place)
+        .collect(told.alloc)?;
+    let label = told.label(site.first).unwrap_or("");
+    let mut line = Pen::new(told.alloc);
+    if let Some(split) = split_of(told, paths.as_slice(), label) {
+        let own = words_of(&site.row, split.own.all);
+        push_split(&mut line, told, &split, own, ": % of % in time");
+        entry.call = Some(split.frame);
+        entry.site = Pen::new(told.alloc);
+        push_call(&mut entry.site, split.frame);
+        entry.aside(line);
+    } else if stores_of(&site.row) > 1 {
+        push_share(&mut line, told, &site.row, sites);
+        entry.aside(line);
+    }
+    Ok(())
+}
+
+// The split by the innermost caller of the label through which no path saves any in time, though another path saves all.
+fn split_of<'a>(told: &Telling<'a>, paths: &[&PlaceRow], label: &'a str) -> Option<Split<'a>> {
+    for depth in 1..DEEPEST {
+        let frame = frame_at(label, depth)?;
+        let frames = depth.saturating_add(1);
+        let call = frames_up_to(label, frames);
+        let (mut own, mut others) = (EMPTY, EMPTY);
+        let mut is_split = true;
+        let mut has_good = false;
+        for path in paths {
+            let missed = missed_of(*path);
+            let other = told.label(path.first).unwrap_or("");
+            if frames_up_to(other, frames) == call {
+                own.add(missed, stores_of(*path));
+                is_split = is_split && missed > 0 && path.in_time == 0;
+            } else {
+                others.add(path.in_time, stores_of(*path));
+                has_good = has_good || missed == 0;
+            }
+        }
+        if is_split && has_good {
+            return Some(Split { frame, own, others });
+        }
+    }
+    None
+}
+
+// What becomes of the site's stores by way of the caller, of which there are so many.
+fn words_of(row: &PlaceRow, stores: u64) -> &'static str {
+    match (row.lost, row.late, stores) {
+        (_, 0, 1) => ": % of % never saved (ran once)",
+        (_, 0, _) => ": % of % never saved",
+        (0, _, 1) => ": % of % saved late (ran once)",
+        (0, _, _) => ": % of % saved late",
+        (_, _, 1) => ": % of % lost or late (ran once)",
+        _ => ": % of % lost or late",
+    }
+}
+
+// How many stores the row loses or delays.
+fn missed_of(row: &PlaceRow) -> u64 {
+    row.lost.saturating_add(row.late)
+}
+
+// How many stores the row has that are not ignored.
+fn stores_of(row: &PlaceRow) -> u64 {
+    row.stores.saturating_sub(row.ignored)
+}
+
+// Adds how many stores of the site are not saved in time; it is named if it is one of several.
+pub(crate) fn push_share(pen: &mut Pen, told: &Telling<'_>, row: &PlaceRow, sites: usize) {
+    told.say(pen, "% of % stores", &[missed_of(row), stores_of(row)]);
+    if sites > 1 {
+        pen.put(" of ");
+        push_spot(pen, told, row.place);
+    }
+    match row.in_time {
+        0 => pen.put("; none is saved in time"),
+        1 => pen.put("; the other one in time"),
+        count => pen.fill("; the other # in time", &[count]),
+    }
+}
+
+// Adds by which caller assertions of the site of the failed one fail, if some pass by others. It takes a look at all assertions.
+pub(crate) fn add_failing_call<'a>(entry: &mut Told<'a>, told: &Telling<'a>, event: u64) {
+    let Some(frame) = told.caller(event) else {
+        return;
+    };
+    let site = told.origin(event);
+    let (mut own, mut others) = (EMPTY, EMPTY);
+    for verdict in told.explanation.analysis.verdicts() {
+        if told.origin(verdict.event) == site {
+            let fails = if verdict.pass { 0 } else { 1 };
+            if told.caller(verdict.event) == Some(frame) {
+                own.add(fails, 1);
+            } else {
+                others.add(fails, 1);
+            }
+        }
+    }
+    if others.part < others.all {
+        let mut line = Pen::new(told.alloc);
+        let split = Split { frame, own, others };
+        push_split(&mut line, told, &split, failing(own), failing(others));
+        entry.aside(line);
+        entry.call = Some(frame);
+    }
+}
+
+// How many of these fail.
+fn failing(share: Share) -> &'static str {
+    match share.part {
+        1 => ": % of % fails",
+        _ => ": % of % fail",
+    }
+}

@@ -1,0 +1,217 @@
+//! Why a store is never saved, or late: the reason, the few events that tell it, and the fix.
+
+use crate::losses::{late_in, sign_of};
+use crate::partners::partner_of;
+use pmt_causes::Origin;
+use pmt_entries::Site;
+use pmt_hints::HintKind;
+use pmt_model::OutOfMemory;
+use pmt_pen::Pen;
+use pmt_slices::{StorePart, StoreStory, store_story_of};
+use pmt_telling::{Crashes, NEAR, Telling, Told, push_lines, push_site};
+use std::collections::HashMap;
+
+// Why a store is lost or late.
+#[derive(Clone, Copy, PartialEq, Eq)]
+enum Why {
+    // It comes after this flush of its line.
+    AfterFlush(Option<u64>),
+    // This flush is the last one, and the store is to the next line.
+    Short(u64),
+    NeverFlushed,
+    // It is flushed only after the next fence of its thread.
+    FlushedLate,
+    // This flush is never fenced, or not in time.
+    NeverFenced(u64),
+    FencedLate(u64),
+}
+
+// A store that is lost or late, and what is known of it.
+#[derive(Drop)]
+struct Shown {
+    store: u64,
+    // The next fence of its thread; a number behind the last event where there is none.
+    fence: u64,
+    story: StoreStory,
+    why: Why,
+    // The lines of the stores that the same call misses, and the last of these stores.
+    lines: Vec<u64>,
+    last: u64,
+}
+
+// Adds the reason, the story and the fix of a store of the main site of these.
+pub(crate) fn add_story(
+    told: &Telling<'_>,
+    main: &Site,
+    sites: &[Site],
+    entry: &mut Told<'_>,
+) -> Result<(), OutOfMemory> {
+    let Some(story) = store_story_of(told.alloc, told.trace, main.first)? else {
+        return Ok(());
+    };
+    let mut shown = Shown {
+        store: main.first,
+        fence: main.fence,
+        why: why_of(told, main, &story),
+        story,
+        lines: Vec::new(told.alloc),
+        last: main.first,
+    };
+    add_call(told, sites, &mut shown)?;
+    entry.why.put(match shown.why {
+        Why::NeverFlushed if late_in(sites) > 0 => words_of(Why::FlushedLate),
+        why => words_of(why),
+    });
+    if let Why::Short(flush) = shown.why {
+        entry.site = Pen::new(told.alloc);
+        push_site(&mut entry.site, told, told.origin(flush));
+    }
+    add_rows(told, &shown, entry);
+    push_fix(&mut entry.fix, told, &shown);
+    entry.edited = Some(shown.last);
+    entry.crashes = crashes_of(told, &shown);
+    Ok(())
+}
+
+// The crashes that can lose the store: until it is safe; of one that is never safe, until its thread's next fence.
+fn crashes_of(told: &Telling<'_>, shown: &Shown) -> Option<Crashes> {
+    let from = shown.store;
+    if shown.story.is_safe() {
+        let last = shown.story.numbers().last().copied();
+        return last.map(|to| Crashes { from, to });
+    }
+    let to = shown.fence;
+    if to < told.end() {
+        Some(Crashes { from, to })
+    } else {
+        None
+    }
+}
+
+// Why the main site's first missed store is so.
+fn why_of(told: &Telling<'_>, main: &Site, story: &StoreStory) -> Why {
+    if let Some(hint) = sign_of(told, main) {
+        match hint.kind {
+            HintKind::StoredAfterFlush => {
+                let mut own = hint;
+                own.first = main.first;
+                return Why::AfterFlush(partner_of(told, &own));
+            }
+            HintKind::OneLineShort => return Why::Short(hint.first),
+            HintKind::SplitWord | HintKind::OpenAtStore | HintKind::StoredAfterMark => {}
+        }
+    }
+    match story.flush() {
+        None => Why::NeverFlushed,
+        Some(flush) if flush > main.fence => Why::FlushedLate,
+        Some(flush) if story.is_safe() => Why::FencedLate(flush),
+        Some(flush) => Why::NeverFenced(flush),
+    }
+}
+
+// Why it is so, in words.
+fn words_of(why: Why) -> &'static str {
+    match why {
+        Why::AfterFlush(_) => "stored after the flush of the cache line",
+        Why::Short(_) => "the flush ends one cache line short",
+        Why::NeverFlushed => "no flush of the cache line follows",
+        Why::FlushedLate => "the cache line is not flushed before the next fence",
+        Why::NeverFenced(_) => "flushed, and never fenced by the thread that flushes",
+        Why::FencedLate(_) => "flushed, and not fenced in time",
+    }
+}
+
+// Notes what the same call misses at these sites: what its thread stores before its next fence.
+fn add_call(told: &Telling<'_>, sites: &[Site], shown: &mut Shown) -> Result<(), OutOfMemory> {
+    let mut places: HashMap<Origin, bool> = HashMap::new(told.alloc);
+    for site in sites {
+        places.insert(site.row.place, true)?;
+    }
+    let thread = told.thread(shown.store);
+    let loses = told.is_lost(shown.store);
+    for number in shown.store..shown.fence.min(shown.store.saturating_add(NEAR)) {
+        let is_late = told.waited(number) >= 2;
+        let is_missed = if loses { told.is_lost(number) } else { is_late };
+        if is_missed && told.thread(number) == thread && places.contains_key(&told.origin(number)) {
+            shown.lines.push(told.line(number).unwrap_or(0))?;
+            shown.last = number;
+        }
+    }
+    shown.lines.sort_unstable();
+    shown.lines.dedup();
+    Ok(())
+}
+
+// Adds the events that tell why, with what each is to the store.
+fn add_rows(told: &Telling<'_>, shown: &Shown, entry: &mut Told<'_>) {
+    match shown.why {
+        Why::Short(flush) => entry.row(Some(flush), "the last line flushed"),
+        Why::AfterFlush(flush) => entry.row(flush, "flushes the line, too early"),
+        _ => entry.row(
+            last_idle(told, &shown.story),
+            "flushes another line, in vain",
+        ),
+    }
+    for number in shown.story.numbers() {
+        let part = shown.story.part(*number);
+        if part != StorePart::Other {
+            entry.noted(*number, note_of(told, shown, *number, part));
+        }
+    }
+}
+
+// The last flush of another line in the story, if it does nothing: then its address may be wrong.
+fn last_idle(told: &Telling<'_>, story: &StoreStory) -> Option<u64> {
+    let numbers = story.numbers().iter();
+    let others = numbers.filter(|number| story.part(**number) == StorePart::Other);
+    let flush = others.last().copied()?;
+    let dropped = told.explanation.dropped.as_slice();
+    let found = dropped.binary_search_by_key(&flush, |dropped| dropped.event);
+    found.ok().map(|_| flush)
+}
+
+// What the event is to the store.
+fn note_of(told: &Telling<'_>, shown: &Shown, number: u64, part: StorePart) -> Pen {
+    let is_safe = shown.story.is_safe();
+    let is_own = told.thread(number) == told.thread(shown.store);
+    let form = match part {
+        StorePart::Store if is_safe => "late by % fence~",
+        StorePart::Store => "never saved",
+        StorePart::Other => "flushes another line",
+        StorePart::OwnFence => "does not save it",
+        StorePart::Flush if is_safe => "the first flush after the store",
+        StorePart::Flush => "its flush, never fenced",
+        StorePart::Cover => "the flush that saves it",
+        StorePart::Fence if is_own => "does not save it",
+        StorePart::Fence => "of another thread: does not help",
+        StorePart::Saves => "safe only here",
+    };
+    told.said(form, &[told.waited(number)])
+}
+
+// Adds what saves the store in time.
+fn push_fix(pen: &mut Pen, told: &Telling<'_>, shown: &Shown) {
+    let lines = shown.lines.as_slice();
+    match shown.why {
+        Why::NeverFenced(flush) | Why::FencedLate(flush) => {
+            let numbers = [told.thread(flush) as u64, flush];
+            told.say(pen, "fence by thread # after $", &numbers);
+            return;
+        }
+        Why::Short(flush) => {
+            push_site(pen, told, told.origin(flush));
+            pen.put(" must flush all that is stored: also ");
+            push_lines(pen, told, lines);
+        }
+        Why::AfterFlush(_) | Why::NeverFlushed | Why::FlushedLate => {
+            pen.put("flush ");
+            push_lines(pen, told, lines);
+            told.say(pen, " after $", &[shown.last]);
+        }
+    }
+    if shown.fence < told.end() {
+        pen.fill(", before the fence of event #", &[shown.fence]);
+    } else {
+        pen.put(", and fence");
+    }
+}

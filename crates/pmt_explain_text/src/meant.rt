@@ -1,0 +1,80 @@
+//! Losses and delays that may be meant, each with the question that decides.
+
+use crate::losses::{late_in, lost_in, push_all, sites_of};
+use pmt_entries::Site;
+use pmt_model::OutOfMemory;
+use pmt_pen::Pen;
+use pmt_telling::{Crashes, Telling, Told, push_lines, push_trace, push_word, site_frame};
+
+// The most sites that options are named for.
+const FEW: usize = 3;
+
+const AGAIN: &str =
+    "): stored again and again, % time~, never flushed. Does recovery read it? If it does, this is a bug. If not:";
+
+const CLAIMED: &str = ": % store~ saved late, before an assertion first claims them.";
+
+// The loss with this index, as a question with the command that answers it or leaves the loss out.
+pub(crate) fn meant_entry<'a>(told: &Telling<'a>, index: u64) -> Result<Told<'a>, OutOfMemory> {
+    let mut entry = Told::new(told.alloc);
+    let sites = sites_of(told, index)?;
+    let Some(first) = sites.first() else {
+        return Ok(entry);
+    };
+    entry.call = site_frame(told, first.row.place);
+    push_all(&mut entry.what, told, sites.as_slice())?;
+    if first.is_scratch {
+        push_scratch(&mut entry.what, told, sites.as_slice())?;
+    } else {
+        push_claimed(&mut entry.what, told, first, sites.as_slice());
+    }
+    Ok(entry)
+}
+
+// Adds that the stores are never flushed, and what leaves them out.
+fn push_scratch(pen: &mut Pen, told: &Telling<'_>, sites: &[Site]) -> Result<(), OutOfMemory> {
+    let lines = sites.iter().map(|site| told.line(site.first).unwrap_or(0));
+    let mut lines: Vec<u64> = lines.collect(told.alloc)?;
+    lines.sort_unstable();
+    lines.dedup();
+    pen.put(" (");
+    push_lines(pen, told, lines.as_slice());
+    told.say(pen, AGAIN, &[lost_in(sites)]);
+    for site in sites.iter().take(FEW) {
+        push_ignored(pen, told, site);
+    }
+    Ok(())
+}
+
+// Adds the option that leaves out the site: by its name, or of a thread by the cache line.
+fn push_ignored(pen: &mut Pen, told: &Telling<'_>, site: &Site) {
+    match site_frame(told, site.row.place) {
+        Some(frame) if !frame.starts_with("-") => {
+            pen.put(" --ignore-label ");
+            push_word(pen, frame);
+        }
+        _ => {
+            let size = told.trace.format().line_size();
+            pen.fill(" --ignore @:#", &[told.line_start(site.first), size]);
+        }
+    }
+}
+
+// Adds that the stores are saved late, though before they are claimed, and what shows whether that is soon enough.
+fn push_claimed(pen: &mut Pen, told: &Telling<'_>, first: &Site, sites: &[Site]) {
+    told.say(pen, CLAIMED, &[late_in(sites)]);
+    pen.put(" May a crash lose them until then? If not, this is a bug: ");
+    let from = first.first;
+    let to = first.fence.min(told.end().saturating_sub(1));
+    push_replay(pen, told, Some(Crashes { from, to }));
+}
+
+// Adds the command that runs recovery on crashes, on these if some are named.
+pub(crate) fn push_replay(pen: &mut Pen, told: &Telling<'_>, crashes: Option<Crashes>) {
+    pen.put("pmtrim-replay");
+    if let Some(Crashes { from, to }) = crashes {
+        pen.fill(" --at #-#", &[from, to]);
+    }
+    push_trace(pen, told);
+    pen.put(" -- YOUR_CHECKER {}");
+}

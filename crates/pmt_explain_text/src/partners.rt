@@ -1,0 +1,117 @@
+//! The events that others go with: those of hints, and those that make a store safe.
+
+use pmt_hints::{Hint, HintKind};
+use pmt_model::OutOfMemory;
+use pmt_slices::{StorePart, store_story_of};
+use pmt_telling::{Bytes, NEAR, Telling};
+
+// The most events that are looked at for the store that publishes.
+const FEW: u64 = 64;
+
+// The event that the hint's first one goes with, if it stands near: the other part of the word, the flush, the missed store, the store that is
+// made too soon; none of stores after a mark.
+pub(crate) fn partner_of(told: &Telling<'_>, hint: &Hint) -> Option<u64> {
+    let first = hint.first;
+    match hint.kind {
+        HintKind::OpenAtStore => {
+            (first..first.saturating_add(NEAR)).find(|other| goes_with(told, hint, *other))
+        }
+        HintKind::SplitWord | HintKind::StoredAfterFlush | HintKind::OneLineShort => {
+            let mut before = (first.saturating_sub(NEAR)..first).rev();
+            before.find(|other| goes_with(told, hint, *other))
+        }
+        HintKind::StoredAfterMark => None,
+    }
+}
+
+// Whether an event of the thread can go with the first one.
+fn goes_with(told: &Telling<'_>, hint: &Hint, other: u64) -> bool {
+    let line = told.line(hint.first);
+    let other_line = told.line(other);
+    let is_store = told.stored(other).is_some();
+    told.thread(other) == told.thread(hint.first)
+        && match hint.kind {
+            HintKind::SplitWord => is_store,
+            HintKind::StoredAfterMark => false,
+            HintKind::StoredAfterFlush => !is_store && other_line == line,
+            HintKind::OpenAtStore => is_store && other_line != line,
+            HintKind::OneLineShort => is_store
+                && other_line == line.map(|line| line.saturating_add(1)),
+        }
+}
+
+// The last store to the line of the flush before it, if it stands near.
+pub(crate) fn flushed_store(told: &Telling<'_>, flush: u64) -> Option<u64> {
+    let line = told.line(flush);
+    (flush.saturating_sub(NEAR)..flush).rev().find(|number| told.stored(*number).is_some()
+        && told.line(*number) == line)
+}
+
+/// A store that publishes others, and an assertion that says so.
+#[derive(Clone, Copy)]
+pub(crate) struct Mark {
+    pub(crate) store: u64,
+    pub(crate) claim: u64,
+}
+
+// The store that publishes before the first one of the hint, and the next order that passes and names it, if both stand near.
+pub(crate) fn mark_of(told: &Telling<'_>, hint: &Hint) -> Option<Mark> {
+    let first = hint.first;
+    let thread = told.thread(first);
+    let low = first.saturating_sub(FEW);
+    let fence = (low..first).rev().find(|number| told.thread(*number) == thread
+        && told.is_fence(*number));
+    let low = fence.unwrap_or(low);
+    for claim in first..first.saturating_add(NEAR).min(told.end()) {
+        if let Some(range) = told.second_range(claim) {
+            let store = (low..first)
+                .rev()
+                .find(|number| is_mark(told, hint, *number, range));
+            let passes = told.explanation.failing.binary_search(&claim).is_err();
+            if let Some(store) = store.filter(|_| passes) {
+                return Some(Mark { store, claim });
+            }
+        }
+    }
+    None
+}
+
+// Whether the event is a store of the hint's thread and site to one of these bytes, and to another address than the hint's first one.
+fn is_mark(told: &Telling<'_>, hint: &Hint, number: u64, range: Bytes) -> bool {
+    told.stored(number)
+        .is_some_and(|stored| stored.meets(range))
+        && told.thread(number) == told.thread(hint.first)
+        && told.origin(number) == hint.place
+        && told.address(number) != told.address(hint.first)
+}
+
+/// What makes a store safe, up to the end of the trace.
+#[derive(Clone, Copy)]
+pub(crate) struct Saving {
+    /// The first flush of its cache line after it.
+    pub(crate) flush: Option<u64>,
+    /// The fence or clflush from which on it is safe.
+    pub(crate) saves: Option<u64>,
+}
+
+// What makes the store safe; nothing where it is not asked for, since it takes a look at each event after the store.
+pub(crate) fn saving_of(
+    told: &Telling<'_>,
+    store: u64,
+    is_asked: bool,
+) -> Result<Saving, OutOfMemory> {
+    let mut saving = Saving {
+        flush: None,
+        saves: None,
+    };
+    if !is_asked {
+        return Ok(saving);
+    }
+    if let Some(story) = store_story_of(told.alloc, told.trace, store)? {
+        saving.flush = story.flush();
+        let mut numbers = story.numbers().iter();
+        let saves = numbers.find(|number| matches!(story.part(**number), StorePart::Saves));
+        saving.saves = saves.copied();
+    }
+    Ok(saving)
+}

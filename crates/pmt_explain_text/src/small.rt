@@ -1,0 +1,104 @@
+//! What does no harm, or is too rare to tell alone, in one sentence.
+
+use pmt_causes::Origin;
+use pmt_explanation::Summary;
+use pmt_fates::{LEAST_EVENTS, PlaceRow};
+use pmt_hints::{Hint, HintKind};
+use pmt_model::OutOfMemory;
+use pmt_pen::Pen;
+use pmt_telling::{Telling, pen_of, push_comma, push_more, push_site, push_spot, push_wrapped};
+
+// The most sites that are named.
+const NAMED: usize = 3;
+
+// Adds the small things, if there are some.
+pub(crate) fn push_small(
+    pen: &mut Pen,
+    told: &Telling<'_>,
+    counts: &Summary,
+) -> Result<(), OutOfMemory> {
+    let mut line = pen_of(told.alloc, "Small things: ");
+    let start = line.len();
+    push_hints(&mut line, told, HintKind::OpenAtStore)?;
+    push_hints(&mut line, told, HintKind::SplitWord)?;
+    push_useless(&mut line, told, counts);
+    if line.len() > start {
+        line.put(".");
+        push_wrapped(pen, &line, 4);
+    }
+    Ok(())
+}
+
+// Adds where the hints of this kind are that have fewer events than an entry, if there are some.
+fn push_hints(pen: &mut Pen, told: &Telling<'_>, kind: HintKind) -> Result<(), OutOfMemory> {
+    let (what, enough) = match kind {
+        HintKind::OpenAtStore => ("a flush unfenced at the next store, at ", LEAST_EVENTS),
+        _ => (
+            "a word in two cache lines, of which a crash can keep one half, at ",
+            u64::MAX,
+        ),
+    };
+    let hints = told.explanation.hints.iter();
+    let found: Vec<Hint> = hints
+        .filter(|hint| hint.kind == kind && hint.count < enough)
+        .copied()
+        .collect(told.alloc)?;
+    if found.is_empty() {
+        return Ok(());
+    }
+    push_break(pen, what);
+    for (index, hint) in found.iter().take(NAMED).enumerate() {
+        push_comma(pen, index, found.len());
+        push_spot(pen, told, hint.place);
+        told.say(pen, " (*)", &[hint.count]);
+    }
+    push_more(pen, NAMED, found.len());
+    Ok(())
+}
+
+// Adds how many flushes and fences do nothing, and where most.
+fn push_useless(pen: &mut Pen, told: &Telling<'_>, counts: &Summary) {
+    let (form, numbers) = match (counts.flushes_dropped, counts.fences_dropped) {
+        (0, 0) => return,
+        (flushes, 0) => ("% of % flush~", [flushes, counts.flushes, 0, 0]),
+        (0, fences) => ("% of % fence~", [fences, counts.fences, 0, 0]),
+        (flushes, fences) => (
+            "% of % flush~ and % of % fence~",
+            [flushes, counts.flushes, fences, counts.fences],
+        ),
+    };
+    push_break(pen, "useless: ");
+    told.say(pen, form, &numbers);
+    let Some(site) = idlest_site(told) else {
+        return;
+    };
+    if let Origin::Label(_) = site {
+        pen.put(", most at ");
+        push_site(pen, told, site);
+    }
+}
+
+// The site with most flushes and fences that do nothing; of several with as many the first one.
+fn idlest_site(told: &Telling<'_>) -> Option<Origin> {
+    let rows = told.explanation.places.iter();
+    let most = rows.fold(0u64, |most, row| most.max(idle_of(row)));
+    for row in told.explanation.places.iter() {
+        if idle_of(row) == most {
+            return Some(row.place);
+        }
+    }
+    None
+}
+
+// How many of its flushes and fences do nothing.
+fn idle_of(row: &PlaceRow) -> u64 {
+    row.idle_flushes.saturating_add(row.idle_fences)
+}
+
+// Adds the next small thing's first words.
+fn push_break(pen: &mut Pen, what: &str) {
+    if !pen.as_str().ends_with(": ") {
+        pen.put("; ");
+    }
+    pen.put(what);
+}

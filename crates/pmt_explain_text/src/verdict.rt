@@ -1,0 +1,159 @@
+//! The verdict in a sentence.
+
+use pmt_entries::{Verdict, Weight, weight_of_site};
+use pmt_explanation::Summary;
+use pmt_pen::Pen;
+use pmt_telling::{Telling, Told, pen_of, push_text, push_wrapped};
+
+// The columns before the further lines of the verdict.
+const FURTHER: u64 = 4;
+
+const NOT_CHECKED: &str = "; no assertions, so order is not checked";
+
+// Adds the verdict on the trace, with its first entry.
+pub(crate) fn push_verdict(
+    pen: &mut Pen,
+    told: &Telling<'_>,
+    counts: &Summary,
+    first: Option<&Told<'_>>,
+) {
+    let verdict = told.explanation.entries.verdict;
+    let mut line = pen_of(told.alloc, word_of(told, verdict));
+    match verdict {
+        Verdict::Nothing => line.put("the trace stores nothing"),
+        Verdict::Fail => push_broken(&mut line, told, counts),
+        Verdict::Lost | Verdict::Suspect | Verdict::Check => {
+            push_found(&mut line, told, counts, first);
+        }
+        Verdict::ProbablyOk | Verdict::Ok | Verdict::OkSoFar => {
+            push_fine(&mut line, told, counts);
+            if counts.assertions == 0 {
+                line.put(NOT_CHECKED);
+            }
+        }
+    }
+    let ignored = counts.ignored_never_persisted;
+    if ignored > 0 {
+        line.fill("; # never saved, as ignored", &[ignored]);
+    }
+    if !told.screen.knows_verdicts {
+        line.put(", as far as the trace tells");
+    }
+    line.put(".");
+    push_wrapped(pen, &line, FURTHER);
+}
+
+// The word that the verdict begins with.
+fn word_of(told: &Telling<'_>, verdict: Verdict) -> &'static str {
+    match verdict {
+        Verdict::Nothing => "Nothing to judge: ",
+        Verdict::Fail => "FAIL: ",
+        Verdict::Lost if told.screen.knows_losses => "LOST: ",
+        Verdict::Suspect => "SUSPECT: ",
+        Verdict::Lost | Verdict::Check => "CHECK: ",
+        Verdict::ProbablyOk => "PROBABLY OK: ",
+        Verdict::Ok => "OK: ",
+        Verdict::OkSoFar => "OK so far: ",
+    }
+}
+
+// Adds how many assertions a crash can break, and the first of them.
+fn push_broken(pen: &mut Pen, told: &Telling<'_>, counts: &Summary) {
+    let first = told.explanation.failing.first().copied().unwrap_or(0);
+    if counts.assertions == 1 {
+        told.say(pen, "a crash can break the assertion, $", &[first]);
+    } else {
+        let form = "a crash can break % of % assertions, first at $";
+        told.say(pen, form, &[counts.failing, counts.assertions, first]);
+    }
+}
+
+// Adds what weighs most and where the first of it is, that the assertions hold, and what is never saved.
+fn push_found(pen: &mut Pen, told: &Telling<'_>, counts: &Summary, first: Option<&Told<'_>>) {
+    let verdict = told.explanation.entries.verdict;
+    let is_lost = verdict == Verdict::Lost;
+    let lost = lost_of(told);
+    if is_lost {
+        push_never_saved(pen, told, counts, lost);
+    }
+    let found = most_weighing(told);
+    let form = match (verdict, found) {
+        (Verdict::Lost, 1) => ", at ",
+        (Verdict::Lost, _) => ", first at ",
+        (Verdict::Suspect, 1) => "one likely bug, ",
+        (Verdict::Suspect, _) => "% likely bugs, first at ",
+        (_, 1) => "one thing to look at, ",
+        _ => "% things to look at, first at ",
+    };
+    told.say(pen, form, &[found]);
+    if let Some(entry) = first {
+        push_text(pen, &entry.site);
+        if !is_lost {
+            pen.put(" (");
+            push_text(pen, &entry.gist);
+            pen.put(")");
+        }
+    }
+    match counts.assertions {
+        0 => pen.put(NOT_CHECKED),
+        1 => pen.put("; the assertion holds"),
+        count => pen.fill("; all # assertions hold", &[count]),
+    }
+    let others = counts.never_persisted.saturating_sub(lost);
+    if is_lost && others > 0 {
+        pen.fill("; # more may be meant", &[others]);
+    } else if !is_lost && counts.never_persisted > 0 {
+        pen.put("; ");
+        push_never_saved(pen, told, counts, counts.never_persisted);
+    }
+}
+
+// How many entries weigh as much as the first one.
+fn most_weighing(told: &Telling<'_>) -> u64 {
+    let entries = told.explanation.entries.entries.as_slice();
+    let weight = entries.first().map(|entry| entry.weight);
+    let most = entries.iter().filter(|entry| Some(entry.weight) == weight);
+    most.count() as u64
+}
+
+// How many stores are never saved at sites that do not stand apart.
+fn lost_of(told: &Telling<'_>) -> u64 {
+    let sites = told.explanation.entries.sites.iter();
+    sites
+        .filter(|site| weight_of_site(*site) == Weight::Lost)
+        .fold(0u64, |sum, site| sum.saturating_add(site.row.lost))
+}
+
+// Adds that so many stores are never saved.
+fn push_never_saved(pen: &mut Pen, told: &Telling<'_>, counts: &Summary, lost: u64) {
+    let form = match (counts.stores, lost) {
+        (1, _) => "the store is never saved",
+        (_, 1) => "% of % stores is never saved",
+        _ => "% of % stores are never saved",
+    };
+    told.say(pen, form, &[lost, counts.stores]);
+}
+
+// Adds that no crash breaks an assertion, and that the stores are saved.
+fn push_fine(pen: &mut Pen, told: &Telling<'_>, counts: &Summary) {
+    match counts.assertions {
+        0 => {}
+        1 => pen.put("no crash can break the assertion; "),
+        count => pen.fill("no crash can break any of the # assertions; ", &[count]),
+    }
+    if counts.never_persisted > 0 {
+        push_never_saved(pen, told, counts, counts.never_persisted);
+        pen.put(", which may be meant (below)");
+        return;
+    }
+    let form = match counts.stores {
+        1 => "the store is saved in time",
+        _ => "all % stores are saved in time",
+    };
+    told.say(pen, form, &[counts.stores]);
+    let places = told.explanation.places.iter();
+    let late = places.fold(0u64, |sum, row| sum.saturating_add(row.late));
+    if late > 0 {
+        told.say(pen, " but for % that may be meant (below)", &[late]);
+    }
+}

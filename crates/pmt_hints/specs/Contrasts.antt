@@ -1,0 +1,142 @@
+-- How often what is stored to while a flush is open is stored to with nothing open.
+use Rattle.std.specs.Prelude.{◌≡◌, ◌≢◌, ℕ, suc, zero, ◌+◌, ◌-◌, ◌^◌, ◌<◌, ◌==◌, ◌&&◌, ◌||◌, Bool, true, false, not, if◌then◌else◌, nat_eq, List, length, map, Option, None, Some, unwrap_or, slice_get, slice_index_or}
+use Rattle.std.specs.List.{list_any}
+use Rattle.std.specs.declared.hash.FoldHasher.{FoldHasher}
+use Rattle.std.specs.declared.hash.BuildHasherDefault.{BuildHasherDefault}
+use Rattle.std.specs.HashMap.{HashMap, get}
+use Rattle.pmt_model.specs.declared.event.Event.{Event}
+use Rattle.pmt_model.specs.declared.event.Op.{Op}
+use Rattle.pmt_model.specs.declared.event.Op.TheVariants.{Store}
+use Rattle.pmt_model.specs.Values.{Layout}
+use Rattle.pmt_model.specs.Machine.{Act, Stores, Flushes, Clflushes, Fences, Asserts}
+use Rattle.pmt_model.specs.Traces.{Recording, IsAct, act, event}
+use Rattle.pmt_explain.specs.Following.{IsFirst, past_of}
+use Rattle.pmt_hints.specs.declared.contrast.Contrast.{Contrast}
+use Rattle.pmt_hints.specs.declared.hint.Hint.{Hint}
+use Rattle.pmt_hints.specs.declared.hint.HintKind.{HintKind}
+use Rattle.pmt_hints.specs.declared.hint.HintKind.TheVariants.{OpenAtStore}
+use Rattle.pmt_hints.specs.declared.next_stores.NextStores.{NextStores}
+use Rattle.pmt_hints.specs.Hints.{IsStoreBy}
+use Rattle.pmt_hints.specs.Numbers.{elsewhere_at}
+
+-- Event j is a store by thread t after event i, to another line than l.
+abbrev pub IsStoreElsewhere : Recording → ℕ → ℕ → ℕ → ℕ → Type 0
+IsStoreElsewhere T t l i j = (i < j) × ((m : ℕ) × (m ≢ l) × IsStoreBy T t m j)
+
+-- Of each flush the next store of its thread to another line, or the number past the end.
+pub record AreNextStores (T : Recording) (nexts : List ℕ) : Type 0 where
+  pub size : length nexts ≡ length T.events
+  pub each : (k x t l : ℕ) → slice_get nexts k ≡ Some x → IsAct T (suc k) (Flushes t l) → IsFirst (IsStoreElsewhere T t l (suc k)) (past_of T) x
+
+-- The address to which the event stores, if it is a store.
+abbrev pub op_address : Op → Option ℕ
+op_address (Store w) = Some w.addr
+op_address o = None
+
+abbrev pub event_address : Option Event → Option ℕ
+event_address None = None
+event_address (Some e) = op_address e.op
+
+abbrev pub is_address : ℕ → Option ℕ → Bool
+is_address a None = false
+is_address a (Some b) = b == a
+
+-- Clear: thread t has made no flush that waits for a fence since its last fence, in the first n events.
+abbrev pub clear_by : Act → ℕ → Bool → Bool
+clear_by (Stores l w) t was = was
+clear_by (Flushes u l) t was = not (u == t) && was
+clear_by (Clflushes l) t was = was
+clear_by (Fences u) t was = (u == t) || was
+clear_by Asserts t was = was
+
+abbrev pub clear_over : Layout → Option Event → ℕ → Bool → Bool
+clear_over f None t was = was
+clear_over f (Some e) t was = clear_by (act f e) t was
+
+abbrev pub is_clear : Recording → ℕ → ℕ → Bool
+is_clear T t zero = true
+is_clear T t (suc n) = clear_over T.format (event T (suc n)) t (is_clear T t n)
+
+-- No store, and one more, if it is one to the address; it may be clear.
+abbrev pub nothing : Contrast
+nothing = record { clear = 0; all = 0 }
+
+abbrev pub more : Bool → Bool → Contrast → Contrast
+more false clear c = c
+more true clear c = record { clear = if clear then c.clear + 1 else c.clear; all = c.all + 1 }
+
+-- The event after the first n.
+abbrev pub contrast_over : Recording → ℕ → ℕ → Option Event → Contrast → Contrast
+contrast_over T a n None c = c
+contrast_over T a n (Some e) c = more (is_address a (op_address e.op)) (is_clear T e.thread n) c
+
+-- How many of the first n events are stores to address a, and of these clear; and of all events.
+abbrev pub contrast_upto : Recording → ℕ → ℕ → Contrast
+contrast_upto T a zero = nothing
+contrast_upto T a (suc n) = contrast_over T a n (event T (suc n)) (contrast_upto T a n)
+
+abbrev pub contrast_at : Recording → ℕ → Contrast
+contrast_at T a = contrast_upto T a (length T.events)
+
+abbrev pub contrast_if : Recording → Option ℕ → Contrast
+contrast_if T None = nothing
+contrast_if T (Some a) = contrast_at T a
+
+-- What is stored to while the first flush of a hint is open, if it is a hint of such flushes.
+abbrev pub kind_address : Recording → ℕ → HintKind → Option ℕ
+kind_address T next OpenAtStore = event_address (event T next)
+kind_address T next kind = None
+
+abbrev pub address_in : Recording → List ℕ → Hint → Option ℕ
+address_in T nexts h = kind_address T (slice_index_or nexts (h.first - 1) 0) h.kind
+
+-- The contrast of each of these hints.
+abbrev pub AreContrasts : Recording → List Hint → List Contrast → Type 0
+AreContrasts T hints contrasts = (nexts : List ℕ) × AreNextStores T nexts × (contrasts ≡ map (λ (h : Hint). contrast_if T (address_in T nexts h)) hints)
+
+-- By the next stores after it, that of an act which is a flush.
+abbrev pub next_by : NextStores → Act → ℕ
+next_by stores (Stores l w) = 0
+next_by stores (Flushes t l) = elsewhere_at stores t l
+next_by stores (Clflushes l) = 0
+next_by stores (Fences t) = 0
+next_by stores Asserts = 0
+
+-- Thread t's flag, once the act is met: 1 for a flush, 0 for a fence.
+abbrev pub open_by : Act → ℕ → ℕ → ℕ
+open_by (Stores l w) t old = old
+open_by (Flushes u l) t old = if u == t then 1 else old
+open_by (Clflushes l) t old = old
+open_by (Fences u) t old = if u == t then 0 else old
+open_by Asserts t old = old
+
+-- Counts by address.
+abbrev pub Counts : Type 0
+Counts = HashMap ℕ Contrast (BuildHasherDefault FoldHasher)
+
+abbrev pub count_at : Counts → ℕ → Option Contrast
+count_at counts a = get nat_eq counts a
+
+-- The address is one that these hints ask for.
+abbrev pub is_asked : Recording → List ℕ → List Hint → ℕ → Bool
+is_asked T nexts hints a = list_any (λ (h : Hint). is_address a (address_in T nexts h)) hints
+
+abbrev pub as_asked : Bool → Contrast → Option Contrast
+as_asked false c = None
+as_asked true c = Some c
+
+abbrev pub asked_at : Bool → Option Contrast → Option Contrast
+asked_at false old = old
+asked_at true old = Some nothing
+
+-- There is room for one more.
+abbrev pub IsSmall : Contrast → Type 0
+IsSmall c = (c.clear + 1 < 2 ^ 64) × (c.all + 1 < 2 ^ 64)
+
+-- The contrast of a hint, by these counts.
+abbrev pub counted_if : Counts → Option ℕ → Contrast
+counted_if counts None = nothing
+counted_if counts (Some a) = unwrap_or (count_at counts a) nothing
+
+abbrev pub contrast_by : Recording → List ℕ → Counts → Hint → Contrast
+contrast_by T nexts counts h = counted_if counts (address_in T nexts h)
