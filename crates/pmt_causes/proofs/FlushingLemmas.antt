@@ -6,7 +6,7 @@ use Rattle.pmt_model.specs.Findings.{ByFlush}
 use Rattle.pmt_reasons.specs.declared.cause.Cause.{Cause}
 use Rattle.pmt_reasons.specs.declared.cause.Cause.TheVariants as cause
 use Rattle.pmt_reasons.specs.Causes.{IsCause}
-use Rattle.pmt_dropping.specs.Upcoming.{IsNextFlush}
+use Rattle.pmt_explain.specs.Upcoming.{IsNextFlush}
 use Rattle.pmt_causes.specs.FailureKeys.{kind_of, cause_by}
 
 pub cause-kind : (T : Recording) (l n x flush : ℕ) (c : Cause) → n ≤ length T.events → IsNextFlush T l x flush → IsCause T l n x c → cause_by n x flush ≡ kind_of c

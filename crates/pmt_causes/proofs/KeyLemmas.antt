@@ -28,8 +28,8 @@ use Rattle.pmt_causes.specs.declared.failure_keys.AssertionKind.{AssertionKind}
 use Rattle.pmt_causes.specs.declared.failure_keys.AssertionKind.TheVariants.{Persist, Ordered}
 use Rattle.pmt_causes.specs.declared.failure_keys.FailureKey.{FailureKey}
 use Rattle.pmt_causes.specs.FailureKeys.{kind_of, cause_by, IsAssertion, IsFailureKey, OfPersist, OfOrdered, Fails, IsKeyed, AreKeyed, key_by, with_keyed}
-use Rattle.pmt_dropping.specs.Upcoming.{AreNextFlushes, ByStore}
-use Rattle.pmt_dropping.proofs.UpcomingLemmas.{next-on}
+use Rattle.pmt_explain.specs.Upcoming.{AreNextFlushes, ByStore}
+use Rattle.pmt_explain.proofs.UpcomingLemmas.{next-on}
 use Rattle.pmt_causes.proofs.FlushingLemmas.{cause-kind}
 
 -- ---- What has a failure fails

@@ -7,7 +7,7 @@ use Rattle.pmt_model.specs.declared.event.Op.TheVariants.{Store, Clwb, ClflushOp
 use Rattle.pmt_model.specs.Traces.{Recording, event}
 use Rattle.pmt_reasons.specs.declared.reason.Reason.{Reason}
 use Rattle.pmt_reasons.specs.declared.reason.Reason.TheVariants as reason
-use Rattle.pmt_dropping.specs.declared.dropped_event.Dropped.{Dropped}
+use Rattle.pmt_explain.specs.declared.dropped_event.Dropped.{Dropped}
 use Rattle.pmt_causes.specs.declared.grouping.Keyed.{Keyed}
 use Rattle.pmt_causes.specs.declared.dropping.Spot.{Spot}
 use Rattle.pmt_causes.specs.declared.dropping.Spot.TheVariants as spot

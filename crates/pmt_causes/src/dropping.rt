@@ -8,7 +8,7 @@ ghost use Rattle.pmt_causes.specs.Dropped.{dropped_item, kind_of as kind_in, op_
 use crate::grouping::{Group, Keyed, in_order, put};
 use crate::labels::label_of;
 use indexmap::IndexMap;
-use pmt_dropping::Dropped;
+use pmt_explain::Dropped;
 use pmt_model::{Format, Op, OutOfMemory, Trace, line_of};
 use pmt_reasons::Reason;
 use std::alloc::Global;

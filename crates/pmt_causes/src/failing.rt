@@ -7,13 +7,12 @@ ghost use Rattle.pmt_model.specs.Assertions.{PersistPasses, OrderedPasses};
 ghost use Rattle.pmt_reasons.specs.Failures.{IsFailureAt, IsPersistFailure, IsOrderedFailure};
 ghost use Rattle.pmt_explain.specs.Saving.{AreSafePlaces};
 ghost use Rattle.pmt_causes.specs.FailureKeys.{AreFailureGroups, AreKeyed, IsFailureKey, key_by, with_keyed};
-ghost use Rattle.pmt_dropping.specs.Upcoming.{AreNextFlushes};
+ghost use Rattle.pmt_explain.specs.Upcoming.{AreNextFlushes};
 ghost use Rattle.pmt_causes.specs.Writers.{AreAllWriters};
 
 use crate::failure_keys::{AssertionKind, FailureKey, key_of};
 use crate::grouping::{Group, Keyed, groups};
-use pmt_dropping::next_flushes;
-use pmt_explain::{LastWriters, SafePlaces, ordered_failure, persist_failure};
+use pmt_explain::{LastWriters, SafePlaces, next_flushes, ordered_failure, persist_failure};
 use pmt_model::{Op, OutOfMemory, Range, Trace};
 use pmt_reasons::Failure;
 use std::alloc::Global;

@@ -4,7 +4,7 @@ ghost use Rattle.std.specs.Prelude.{◌≡◌};
 ghost use Rattle.pmt_causes.specs.FailureKeys.{cause_by, key_by, origin_of as origin_in};
 
 use crate::labels::label_of;
-use pmt_dropping::number_of;
+use pmt_explain::number_of;
 use pmt_reasons::Failure;
 
 /// Whence an event comes.

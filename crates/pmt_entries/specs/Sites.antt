@@ -5,7 +5,7 @@ use Rattle.std.specs.Set.{is_member}
 use Rattle.pmt_model.specs.declared.event.Event.{Event}
 use Rattle.pmt_model.specs.Traces.{Recording, event}
 use Rattle.pmt_causes.specs.declared.failure_keys.Origin.{Origin}
-use Rattle.pmt_dropping.specs.Upcoming.{AreOwnFences}
+use Rattle.pmt_explain.specs.Upcoming.{AreOwnFences}
 use Rattle.pmt_fates.specs.declared.place_row.PlaceRow.{PlaceRow}
 use Rattle.pmt_fates.specs.declared.places.PlaceTable.{PlaceTable}
 use Rattle.pmt_fates.specs.Paths.{misses}

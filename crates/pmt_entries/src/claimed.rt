@@ -5,7 +5,7 @@ ghost use Rattle.std.specs.List.{list_any};
 ghost use Rattle.pmt_model.specs.Analyses.{IsVerdicts};
 ghost use Rattle.pmt_entries.specs.Sites.{AreClaimedIf, is_unclaimed as is_unclaimed_in, is_waiting, unclaimed_in};
 
-use pmt_dropping::number_of;
+use pmt_explain::number_of;
 use pmt_hints::claimed_stores;
 use pmt_model::{OutOfMemory, Trace, Verdict};
 use std::alloc::Global;

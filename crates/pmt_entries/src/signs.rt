@@ -7,7 +7,7 @@ ghost use Rattle.pmt_entries.specs.declared.signs.Mark.TheVariants.{Place};
 ghost use Rattle.pmt_entries.specs.Signs.{earlier as earlier_in, is_mark, line_mark as line_mark_in, mark_of as mark_in, op_line, sign_at as sign_in_map};
 
 use pmt_causes::Origin;
-use pmt_dropping::number_of;
+use pmt_explain::number_of;
 use pmt_hints::{Hint, HintKind};
 use pmt_model::{Format, Op, OutOfMemory, Trace, line_of};
 use std::alloc::Global;

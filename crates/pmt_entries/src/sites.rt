@@ -11,7 +11,7 @@ use crate::contrast::{misses, misses_few, mixed_paths};
 use crate::place_sets::{Places, places_of};
 use crate::scratch::{Lines, first_line, loses_all, scratch_lines, touched_stores};
 use crate::signs::{Signs, sign_of, signs_of};
-use pmt_dropping::{number_of, own_fences};
+use pmt_explain::{number_of, own_fences};
 use pmt_fates::{PlaceRow, PlaceTable};
 use pmt_hints::Hint;
 use pmt_model::{OutOfMemory, Trace};

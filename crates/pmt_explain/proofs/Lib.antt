@@ -20,3 +20,7 @@ pub mod CrashLemmas
 pub mod CountingLemmas
 pub mod KeptLemmas
 pub mod KeepingLemmas
+pub mod UpcomingLemmas
+pub mod ReasonLemmas
+pub mod DroppingLemmas
+pub mod BehindLemmas

@@ -18,3 +18,7 @@ pub mod Crashes
 pub mod Keepers
 pub mod Counting
 pub mod Kept
+pub mod Dropping
+pub mod Upcoming
+pub mod Reasoning
+pub mod Behind

@@ -13,7 +13,7 @@ use Rattle.pmt_reasons.specs.declared.failure.ByteStore.{ByteStore}
 use Rattle.pmt_reasons.specs.declared.reason.Reason.{Reason}
 use Rattle.pmt_explain.specs.declared.bytes.StoredByte.{StoredByte}
 use Rattle.pmt_explain.specs.declared.bytes.CrashByte.{CrashByte}
-use Rattle.pmt_dropping.specs.declared.dropped_event.Dropped.{Dropped}
+use Rattle.pmt_explain.specs.declared.dropped_event.Dropped.{Dropped}
 use Rattle.pmt_explain.specs.declared.lost_grouping.LostGroup.{LostGroup}
 use Rattle.pmt_explain.specs.declared.overwritten_grouping.OverwrittenGroup.{OverwrittenGroup}
 use Rattle.pmt_causes.specs.declared.failure_keys.FailureKey.{FailureKey}

@@ -6,7 +6,7 @@ use Rattle.pmt_model.specs.Traces.{Recording}
 use Rattle.pmt_explain.specs.declared.lines.LineCount.{LineCount}
 use Rattle.pmt_explain.specs.declared.bytes.StoredByte.{StoredByte}
 use Rattle.pmt_explain.specs.declared.bytes.CrashByte.{CrashByte}
-use Rattle.pmt_dropping.specs.declared.dropped_event.Dropped.{Dropped}
+use Rattle.pmt_explain.specs.declared.dropped_event.Dropped.{Dropped}
 use Rattle.pmt_explain.specs.declared.lost_grouping.LostGroup.{LostGroup}
 use Rattle.pmt_explain.specs.declared.overwritten_grouping.OverwrittenGroup.{OverwrittenGroup}
 use Rattle.pmt_failures.specs.declared.failures.RangeAfter.{RangeAfter}

@@ -7,8 +7,7 @@ ghost use Rattle.pmt_explain_json.specs.Entries.{dropped_data, lost_data, overwr
 use crate::objects::object_made;
 use crate::parts::{cause_value, event_value, line_value, mend_value, range_value, reason_value};
 use pmt_asked::Labels;
-use pmt_dropping::Dropped;
-use pmt_explain::{LostGroup, OverwrittenGroup};
+use pmt_explain::{Dropped, LostGroup, OverwrittenGroup};
 use pmt_failures::{Unwritten, mend_for};
 use pmt_model::{OutOfMemory, Range, Trace};
 use serde_json::Value;

@@ -1,7 +1,7 @@
 -- The findings that are asked for.
 use Rattle.std.specs.Prelude.{ℕ, ◌||◌, Bool, List, filter}
 use Rattle.pmt_model.specs.Traces.{Recording}
-use Rattle.pmt_dropping.specs.declared.dropped_event.Dropped.{Dropped}
+use Rattle.pmt_explain.specs.declared.dropped_event.Dropped.{Dropped}
 use Rattle.pmt_explain.specs.declared.overwritten_grouping.Overwriting.{Overwriting}
 use Rattle.pmt_asked.specs.declared.choosing.Choice.{Choice}
 use Rattle.pmt_asked.specs.declared.choosing.Kind.{Kind}

@@ -2,7 +2,7 @@
 use Rattle.std.specs.Prelude.{◌≡◌, ◌-◌, length, map, take, count_by, is_some}
 use Rattle.std.specs.List.{All, filter_map}
 use Rattle.pmt_model.specs.declared.finding.Finding.{Finding}
-use Rattle.pmt_dropping.specs.Dropping.{AreDropped, event_of}
+use Rattle.pmt_explain.specs.Dropping.{AreDropped, event_of}
 use Rattle.pmt_explain.specs.LostGroups.{AreLostGroups}
 use Rattle.pmt_explain.specs.OverwrittenGroups.{AreOverwrittenGroups}
 use Rattle.pmt_causes.specs.Dropped.{dropped_item}

@@ -4,8 +4,8 @@ use Rattle.std.specs.List.{filter_map}
 use Rattle.pmt_model.specs.Traces.{Recording}
 use Rattle.pmt_model.specs.declared.finding.Finding.{Finding}
 use Rattle.pmt_analysis.specs.Analysing.{Analysed}
-use Rattle.pmt_dropping.specs.declared.dropped_event.Dropped.{Dropped}
-use Rattle.pmt_dropping.specs.Dropping.{AreDropped, event_of}
+use Rattle.pmt_explain.specs.declared.dropped_event.Dropped.{Dropped}
+use Rattle.pmt_explain.specs.Dropping.{AreDropped, event_of}
 use Rattle.pmt_explain.specs.LostGroups.{AreLostGroups}
 use Rattle.pmt_explain.specs.OverwrittenGroups.{AreOverwrittenGroups}
 use Rattle.pmt_causes.specs.Dropped.{dropped_item}

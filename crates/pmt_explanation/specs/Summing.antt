@@ -1,7 +1,7 @@
 -- What an explanation begins with.
 use Rattle.std.specs.Prelude.{◌≡◌, ℕ, ◌-◌, length, count_by}
 use Rattle.pmt_model.specs.declared.event.Event.{Event}
-use Rattle.pmt_dropping.specs.declared.dropped_event.Dropped.{Dropped}
+use Rattle.pmt_explain.specs.declared.dropped_event.Dropped.{Dropped}
 use Rattle.pmt_explanation.specs.declared.explaining.Explanation.{Explanation}
 use Rattle.pmt_explanation.specs.declared.summing.Summary.{Summary}
 use Rattle.pmt_explanation.specs.Counting.{is_store, is_flush, is_fence, is_reason_of_fence, threads_of}

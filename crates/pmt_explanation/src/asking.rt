@@ -7,8 +7,7 @@ ghost use Rattle.pmt_asked.specs.declared.choosing.Kind.TheVariants.{Late};
 
 use pmt_asked::{Choice, Kind, Labels, is_asked_for};
 use pmt_causes::{Keyed, LateSpot};
-use pmt_dropping::Dropped;
-use pmt_explain::Overwriting;
+use pmt_explain::{Dropped, Overwriting};
 use pmt_failures::Unwritten;
 use pmt_hints::Hint;
 use pmt_model::{OutOfMemory, Trace};

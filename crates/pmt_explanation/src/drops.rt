@@ -5,7 +5,7 @@ ghost use Rattle.pmt_explanation.specs.Finding.{AreDrops};
 use crate::asking::asked_drops;
 use pmt_asked::{Labels, Options};
 use pmt_causes::{DroppedKey, Group, dropped_groups};
-use pmt_dropping::Dropped;
+use pmt_explain::Dropped;
 use pmt_model::{OutOfMemory, Trace};
 use std::alloc::Global;
 

@@ -5,8 +5,8 @@ use Rattle.std.proofs.lemmas.Bool.{cases_lt, cases_eq, eq-eqb, ne_eqb, lt-ltb, l
 use Rattle.std.proofs.lemmas.List.{length-set}
 use Rattle.std.proofs.lemmas.List.Folds.{list_any_more}
 use Rattle.std.proofs.lemmas.Option.{none-some, same_Some, slice_get-get_or, get_or_from_slice_get, slice_get_within}
-use Rattle.pmt_dropping.specs.declared.dropped_event.Dropped.{Dropped}
-use Rattle.pmt_dropping.specs.Dropping.{event_of}
+use Rattle.pmt_explain.specs.declared.dropped_event.Dropped.{Dropped}
+use Rattle.pmt_explain.specs.Dropping.{event_of}
 use Rattle.pmt_fates.specs.Fates.{is_listed}
 use Rattle.pmt_fates.specs.Marks.{AreMarks, with_mark}
 

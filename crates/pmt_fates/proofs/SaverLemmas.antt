@@ -19,7 +19,7 @@ use Rattle.pmt_fates.specs.declared.fate.Fate.TheVariants.{Claim, Left}
 use Rattle.pmt_fates.specs.declared.saved_before.Savings.{Savings}
 use Rattle.pmt_fates.specs.Places.{fate_at, is_same}
 use Rattle.pmt_fates.specs.Saved.{IsOwnFence, IsSavedAt, TellsSaved}
-use Rattle.pmt_dropping.specs.Upcoming.{AreOwnFences}
+use Rattle.pmt_explain.specs.Upcoming.{AreOwnFences}
 use Rattle.pmt_fates.specs.Savers.{AreLast, AreSavers, IsLastBefore, IsSaver, saved_by, saved_if, with_saver}
 
 -- there is one first number

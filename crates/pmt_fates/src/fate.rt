@@ -1,13 +1,13 @@
 //! What becomes of each event.
 
 ghost use Rattle.std.specs.Prelude.{◌≡◌, length, map, IfOk};
-ghost use Rattle.pmt_dropping.specs.Dropping.{event_of};
+ghost use Rattle.pmt_explain.specs.Dropping.{event_of};
 ghost use Rattle.pmt_explain.specs.Saving.{AreSafePlaces};
 ghost use Rattle.pmt_causes.specs.Late.{AreWaited};
 ghost use Rattle.pmt_fates.specs.Fates.{AreFates, fence_fate as fence_fate_in, flush_fate as flush_fate_in, op_fate, store_fate as store_fate_in};
 
 use crate::marking::{dropped_marks, marks};
-use pmt_dropping::Dropped;
+use pmt_explain::Dropped;
 use pmt_model::{Op, OutOfMemory, Trace};
 use std::alloc::Global;
 

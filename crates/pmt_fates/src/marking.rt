@@ -1,11 +1,11 @@
 //! Which numbers stand in a list.
 
 ghost use Rattle.std.specs.Prelude.{◌≡◌, ◌<◌, ℕ, suc, length, map, IfOk, slice_index_or, false};
-ghost use Rattle.pmt_dropping.specs.Dropping.{event_of};
+ghost use Rattle.pmt_explain.specs.Dropping.{event_of};
 ghost use Rattle.pmt_fates.specs.Fates.{is_listed};
 ghost use Rattle.pmt_fates.specs.Marks.{AreMarks, with_mark};
 
-use pmt_dropping::Dropped;
+use pmt_explain::Dropped;
 use pmt_model::OutOfMemory;
 use std::alloc::Global;
 

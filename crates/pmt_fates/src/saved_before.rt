@@ -9,7 +9,7 @@ ghost use Rattle.pmt_fates.specs.Savers.{AreLast, AreSavers, saved_by, saved_if,
 ghost use Rattle.pmt_model.specs.Traces.{Recording};
 
 use crate::fate::Fate;
-use pmt_dropping::own_fences;
+use pmt_explain::own_fences;
 use pmt_model::{Op, OutOfMemory, Trace};
 use std::alloc::Global;
 

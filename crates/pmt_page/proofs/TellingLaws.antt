@@ -13,7 +13,7 @@ use Rattle.pmt_text.specs.Spelling.{glyph, hex_pair, hex_bytes}
 use Rattle.pmt_text.proofs.FieldLemmas.{AreSmall, paired-hex_bytes}
 use Rattle.pmt_page.specs.declared.events.NumberColumn.{NumberColumn}
 use Rattle.pmt_page.specs.declared.events.NumberColumn.TheVariants.{Thread, Address, Length, SecondAddress, SecondLength}
-use Rattle.pmt_dropping.specs.declared.dropped_event.Dropped.{Dropped}
+use Rattle.pmt_explain.specs.declared.dropped_event.Dropped.{Dropped}
 use Rattle.pmt_page.specs.declared.known.SafePlace.{SafePlace}
 use Rattle.pmt_page.specs.Columns.{op_letter, op_column, numbers_of, stored_bytes, number_column, value_column, found_columns, columns_with}
 use Rattle.pmt_page.specs.Telling.{ColumnsTellEvents}

@@ -8,7 +8,7 @@ use Rattle.pmt_model.specs.declared.finding.Verdict.{Verdict}
 use Rattle.pmt_text.specs.Spelling.{hex_bytes}
 use Rattle.pmt_reasons.specs.declared.reason.Reason.{Reason}
 use Rattle.pmt_reasons.specs.declared.reason.Reason.TheVariants as reason
-use Rattle.pmt_dropping.specs.declared.dropped_event.Dropped.{Dropped}
+use Rattle.pmt_explain.specs.declared.dropped_event.Dropped.{Dropped}
 use Rattle.pmt_page.specs.declared.events.NumberColumn.{NumberColumn}
 use Rattle.pmt_page.specs.declared.events.NumberColumn.TheVariants.{Thread, Address, Length, SecondAddress, SecondLength}
 use Rattle.pmt_page.specs.declared.known.Kept.{Kept}

@@ -4,7 +4,7 @@ use Rattle.std.specs.List.{AllByRecursion, flat_map, list_any}
 use Rattle.pmt_model.specs.declared.event.Event.{Event}
 use Rattle.pmt_model.specs.declared.finding.Verdict.{Verdict}
 use Rattle.pmt_model.specs.Traces.{IsEvent}
-use Rattle.pmt_dropping.specs.declared.dropped_event.Dropped.{Dropped}
+use Rattle.pmt_explain.specs.declared.dropped_event.Dropped.{Dropped}
 use Rattle.pmt_page.specs.declared.known.Kept.TheVariants.{Whole}
 use Rattle.pmt_page.specs.declared.known.SafePlace.{SafePlace}
 use Rattle.pmt_page.specs.Blocks.{array_of_lines}

@@ -3,7 +3,7 @@ ghost use Rattle.std.specs.Prelude.{◌≡◌, ℕ, ◌+◌, ◌<◌, ◌==◌, 
 ghost use Rattle.pmt_page.specs.Columns.{dropped_letter, dropped_letters, reason_letter as letter_of};
 
 use crate::events::may_be_dropped;
-use pmt_dropping::Dropped;
+use pmt_explain::Dropped;
 use pmt_model::{Event, OutOfMemory};
 use pmt_reasons::Reason;
 use std::alloc::Global;

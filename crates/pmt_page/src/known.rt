@@ -1,5 +1,5 @@
 //! What the page is told of a trace besides its events.
-use pmt_dropping::Dropped;
+use pmt_explain::Dropped;
 use pmt_model::Verdict;
 
 /// From which place on no crash loses a store. Place p is right after the first p events.

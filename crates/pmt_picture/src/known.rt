@@ -1,5 +1,5 @@
 //! What is known of a trace before it is drawn.
-use pmt_dropping::Dropped;
+use pmt_explain::Dropped;
 use pmt_model::{Trace, Verdict};
 use pmt_reasons::Reason;
 

@@ -1,7 +1,7 @@
 use Rattle.std.proofs.Common.{rules, subst}
 use Rattle.std.specs.Prelude.{IfOk}
 use Rattle.pmt_model.specs.Traces.{Recording}
-use Rattle.pmt_dropping.specs.Dropping.{AreDropped}
+use Rattle.pmt_explain.specs.Dropping.{AreDropped}
 use Rattle.pmt_causes.specs.Late.{AreWaited}
 use Rattle.pmt_asked.specs.declared.choosing.Kind.TheVariants as kinds
 use Rattle.pmt_asked.specs.Choosing.{is_asked_for}

@@ -1,5 +1,5 @@
 use Rattle.std.proofs.Common.{map}
-use Rattle.pmt_dropping.specs.Dropping.{event_of}
+use Rattle.pmt_explain.specs.Dropping.{event_of}
 use Rattle.pmt_fates.proofs.FateLemmas.{AreSoFar}
 use Rattle.pmt_fates.proofs.fate.fates_of.Given as goal
 

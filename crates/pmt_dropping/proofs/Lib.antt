@@ -1,4 +1,0 @@
-pub mod UpcomingLemmas
-pub mod ReasonLemmas
-pub mod DroppingLemmas
-pub mod BehindLemmas

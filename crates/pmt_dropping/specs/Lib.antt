@@ -1,4 +1,0 @@
-pub mod Dropping
-pub mod Upcoming
-pub mod Reasoning
-pub mod Behind
