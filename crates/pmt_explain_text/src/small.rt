@@ -22,6 +22,7 @@ pub(crate) fn push_small(
     push_hints(&mut line, told, HintKind::OpenAtStore)?;
     push_hints(&mut line, told, HintKind::SplitWord)?;
     push_useless(&mut line, told, counts);
+    pen.share(&line);
     if line.len() > start {
         line.put(".");
         push_wrapped(pen, &line, 4);
