@@ -209,7 +209,9 @@ class Entries:
         self.run, self.hints, self.causes = run, hints, causes
         self.hinted = [origin_of(hint) for hint in hints]
         self.places, self.paths = run.rows(run.site), run.rows(run.path)
-        flushed, asserted = map(run.line, run.of(*ANY_FLUSH)), map(run.asserted, run.of(*ASSERTIONS))
+        first = min((store for _, numbers, _ in self.places for store in self.lost(numbers)), default=0)
+        after = lambda *words: [number for number in run.of(*words) if number > first]
+        flushed, asserted = map(run.line, after(*ANY_FLUSH)), map(run.asserted, after(*ASSERTIONS))
         self.spoken = set(flushed).union(*asserted)
         lost = [self.lost(numbers) for _, numbers, counts in self.places if self.is_lone_scratch(numbers, counts)]
         self.scratch = {run.line(stores[0]) for stores in lost}
@@ -254,7 +256,7 @@ class Entries:
         return [store for store in filter(self.run.is_missed, numbers) if store not in self.run.safe]
 
     def is_untouched(self, numbers, counts):
-        """Whether the site loses all, in lines that nothing flushes or asserts."""
+        """Whether the site loses all, in lines that nothing flushes or asserts after the first store that is lost."""
         return standing(counts)[0] == LOSES_ALL and not any(self.run.line(store) in self.spoken for store in self.lost(numbers))
 
     def is_lone_scratch(self, numbers, counts):

@@ -10,7 +10,7 @@ use Rattle.pmt_model.specs.Selections.{Has}
 use Rattle.pmt_hints.specs.Claiming.{Claims, asked_at, claim_at, is_claimed_line, or_so}
 use Rattle.pmt_hints.proofs.ClaimLemmas.{or_so-twice}
 use Rattle.pmt_hints.proofs.NumberLemmas.{has-push}
-use Rattle.pmt_entries.specs.Scratch.{AreAsked, event_touches, is_noted, is_touched, is_touched_line, line_at}
+use Rattle.pmt_entries.specs.Scratch.{AreAsked, event_touches, is_noted, is_touched, is_touched_line, later, line_at}
 
 -- one item more
 pub any-more : {X : Type 0} (P : X → Bool) (xs : List X) (i : ℕ) (d : X) (o a b : Option Bool) → i < length xs → b ≡ or_so (P (get_or xs i d)) a → a ≡ or_so (list_any P (take i xs)) o → b ≡ or_so (list_any P (take (i + 1) xs)) o
@@ -33,19 +33,19 @@ asked-more T stores i number line old new within is own made x = λ j l has at. 
         made l ∙ ap (λ o. asked_at o l (claim_at old l)) line_is ∙ rw (eq-eqb l l refl) refl
 
 -- a store whose line is asked for
-noted-same : (T : Recording) (stores : List ℕ) (start lines : Claims) → AreAsked T stores start → ((l : ℕ) → claim_at lines l ≡ or_so (list_any (event_touches T.format l) T.events) (claim_at start l)) →
-    (i : ℕ) → Has stores i → is_noted T lines i ≡ is_touched T i
+noted-same : (T : Recording) (stores : List ℕ) (start lines : Claims) → AreAsked T stores start → ((l : ℕ) → claim_at lines l ≡ or_so (list_any (event_touches T.format l) (later T stores)) (claim_at start l)) →
+    (i : ℕ) → Has stores i → is_noted T lines i ≡ is_touched T stores i
 noted-same T stores start lines asked made i has = go (line_at T i) refl
   where
-    go : (line : Option ℕ) → line_at T i ≡ line → is_claimed_line lines line ≡ is_touched_line T line
+    go : (line : Option ℕ) → line_at T i ≡ line → is_claimed_line lines line ≡ is_touched_line T.format (later T stores) line
     go None at = refl
-    go (Some l) at = ap (λ o. unwrap_or o false) (made l ∙ ap (or_so (list_any (event_touches T.format l) T.events)) (asked i l has at))
+    go (Some l) at = ap (λ o. unwrap_or o false) (made l ∙ ap (or_so (list_any (event_touches T.format l) (later T stores))) (asked i l has at))
 
 filter-same : (f g : ℕ → Bool) (ks : List ℕ) → ((k : ℕ) → Has ks k → f k ≡ g k) → filter f ks ≡ filter g ks
 filter-same f g [] same = refl
 filter-same f g (k ∷ ks) same =
     ap (λ b. cond b (k ∷ filter f ks) (filter f ks)) (same k (inl refl)) ∙ ap (λ rest. cond (g k) (k ∷ rest) rest) (filter-same f g ks (λ j has. same j (inr has)))
 
-pub stores-touched : (T : Recording) (stores : List ℕ) (start lines : Claims) → AreAsked T stores start → ((l : ℕ) → claim_at lines l ≡ or_so (list_any (event_touches T.format l) T.events) (claim_at start l)) →
-    filter (is_noted T lines) stores ≡ filter (is_touched T) stores
-stores-touched T stores start lines asked made = filter-same (is_noted T lines) (is_touched T) stores (noted-same T stores start lines asked made)
+pub stores-touched : (T : Recording) (stores : List ℕ) (start lines : Claims) → AreAsked T stores start → ((l : ℕ) → claim_at lines l ≡ or_so (list_any (event_touches T.format l) (later T stores)) (claim_at start l)) →
+    filter (is_noted T lines) stores ≡ filter (is_touched T stores) stores
+stores-touched T stores start lines asked made = filter-same (is_noted T lines) (is_touched T stores) stores (noted-same T stores start lines asked made)

@@ -51,10 +51,10 @@ sited r t fences sign contrast scratch claimed = record {
 }
 
 module _ (T : Recording) (frames : List (Option ℕ)) (table : PlaceTable) (hints : List Hint) (told waited : List ℕ) (claimed : List Bool) (facts : Facts) (mixed touched unclaimed : List ℕ) (are_signs : AreSigns T facts.fences.items hints facts.signs)
-    (are_paths : facts.has_paths ≡ not (length table.paths.items == 0)) (is_mixed : mixed ≡ mixed_paths table.paths.items) (are_mixed : AreAt T frames mixed facts.mixed) (are_touched : touched ≡ filter (is_touched T) told) (at_touched : AreAt T frames touched facts.touched) (are_lines : AreLines T facts table.places.items)
+    (are_paths : facts.has_paths ≡ not (length table.paths.items == 0)) (is_mixed : mixed ≡ mixed_paths table.paths.items) (are_mixed : AreAt T frames mixed facts.mixed) (are_touched : touched ≡ filter (is_touched T told) told) (at_touched : AreAt T frames touched facts.touched) (are_lines : AreLines T facts table.places.items)
     (are_unclaimed : unclaimed ≡ unclaimed_in waited claimed) (at_unclaimed : AreAt T frames unclaimed facts.unclaimed) where
   touched-same : (r : PlaceRow) → contains same_place facts.touched r.place ≡ is_touched_at T frames told r
-  touched-same r = among T frames touched (filter (is_touched T) told) facts.touched r.place are_touched at_touched
+  touched-same r = among T frames touched (filter (is_touched T told) told) facts.touched r.place are_touched at_touched
 
   lone-same : (r : PlaceRow) → lone_by T facts.touched r ≡ is_lone_scratch T frames told r
   lone-same r = ap (λ b. loses_one_address T r && not b) (touched-same r)

@@ -1,5 +1,5 @@
--- Stores that may be scratch: never persisted, in lines that nothing flushes or asserts.
-use Rattle.std.specs.Prelude.{◌≡◌, ℕ, ◌==◌, ◌&&◌, ◌||◌, Bool, true, false, nat_le, List, Option, None, Some, unwrap_or}
+-- Stores that may be scratch: never persisted, in lines that nothing flushes or asserts after the first of these stores.
+use Rattle.std.specs.Prelude.{◌≡◌, ℕ, ◌==◌, ◌&&◌, ◌||◌, Bool, true, false, nat_le, List, drop, Option, None, Some, slice_get, unwrap_or}
 use Rattle.std.specs.List.{list_any}
 use Rattle.std.specs.Option.{option_map}
 use Rattle.pmt_model.specs.declared.event.Event.{Event}
@@ -28,10 +28,14 @@ op_touches f (IsOrderedBefore A B) l = has_line f A l || has_line f B l
 abbrev pub event_touches : Layout → ℕ → Event → Bool
 event_touches f l e = op_touches f e.op l
 
--- Some event of the trace does so.
-abbrev pub is_touched_line : Recording → Option ℕ → Bool
-is_touched_line T None = false
-is_touched_line T (Some l) = list_any (event_touches T.format l) T.events
+-- Some of these events does so.
+abbrev pub is_touched_line : Layout → List Event → Option ℕ → Bool
+is_touched_line f es None = false
+is_touched_line f es (Some l) = list_any (event_touches f l) es
+
+-- The events after the first of these stores: what comes before clears lines, and is no use of them.
+abbrev pub later : Recording → List ℕ → List Event
+later T stores = drop (unwrap_or (slice_get stores 0) 0) T.events
 
 -- The address to which the event stores, if it is a store.
 abbrev pub op_address : Op → Option ℕ
@@ -48,9 +52,9 @@ address_at T i = event_address (event T i)
 abbrev pub line_at : Recording → ℕ → Option ℕ
 line_at T i = option_map (line_of T.format) (address_at T i)
 
--- Event i stores to a line that an event flushes, or an assertion has a byte of.
-abbrev pub is_touched : Recording → ℕ → Bool
-is_touched T i = is_touched_line T (line_at T i)
+-- Event i stores to a line that an event after the first of these stores flushes, or an assertion after it has a byte of.
+abbrev pub is_touched : Recording → List ℕ → ℕ → Bool
+is_touched T stores i = is_touched_line T.format (later T stores) (line_at T i)
 
 abbrev pub is_same : Option ℕ → Option ℕ → Bool
 is_same None b = false

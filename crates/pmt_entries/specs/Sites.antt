@@ -46,18 +46,18 @@ mixed_paths paths = map (λ (r : PlaceRow). r.first) (filter is_mixed paths)
 abbrev pub has_contrast : Recording → List (Option ℕ) → List PlaceRow → PlaceRow → Bool
 has_contrast T frames paths r = not (length paths == 0) && misses_few r && not (is_among T frames (mixed_paths paths) r.place)
 
--- One of these stores is at the site, to a line that something flushes or asserts.
+-- One of these stores is at the site, to a line that something flushes or asserts after the first of them.
 abbrev pub is_touched_at : Recording → List (Option ℕ) → List ℕ → PlaceRow → Bool
-is_touched_at T frames told r = is_among T frames (filter (is_touched T) told) r.place
+is_touched_at T frames told r = is_among T frames (filter (is_touched T told) told) r.place
 
--- It is scratch by itself: it loses all that it stores, to one address first and last, in lines that nothing flushes or asserts.
+-- It is scratch by itself: it loses all that it stores, to one address first and last, in lines that nothing flushes or asserts any more.
 abbrev pub is_lone_scratch : Recording → List (Option ℕ) → List ℕ → PlaceRow → Bool
 is_lone_scratch T frames told r = loses_one_address T r && not (is_touched_at T frames told r)
 
 abbrev pub scratch_lines : Recording → List (Option ℕ) → List ℕ → List PlaceRow → List ℕ
 scratch_lines T frames told rows = map (first_line T) (filter (is_lone_scratch T frames told) rows)
 
--- Scratch: so, or it loses all that it stores, in lines that nothing flushes or asserts, and first to a line of a site that is so.
+-- Scratch: so, or it loses all that it stores, in lines that nothing flushes or asserts any more, and first to a line of a site that is so.
 abbrev pub is_scratch : Recording → List (Option ℕ) → List ℕ → List PlaceRow → PlaceRow → Bool
 is_scratch T frames told rows r = is_all (standing r) && not (is_touched_at T frames told r) && is_member nat_eq (scratch_lines T frames told rows) (first_line T r)
 

@@ -1,4 +1,4 @@
-//! Stores that may be scratch: never persisted, in lines that nothing flushes or asserts.
+//! Stores that may be scratch: never persisted, in lines that nothing flushes or asserts after the first of these stores.
 
 ghost use Rattle.std.specs.Prelude.{◌≡◌, ℕ, filter, map, nat_eq, IfOk, OnOk};
 ghost use Rattle.std.specs.HashSet.{IsFromIterResult};
@@ -6,12 +6,12 @@ ghost use Rattle.std.specs.List.{list_any};
 ghost use Rattle.pmt_fates.specs.Standings.{standing};
 ghost use Rattle.pmt_hints.specs.Claiming.{claim_at, or_so};
 ghost use Rattle.pmt_entries.specs.Judging.{lone_by};
-ghost use Rattle.pmt_entries.specs.Scratch.{AreAsked, address_at, event_touches, first_line as first_line_in, is_all, is_noted as is_noted_in, is_same as is_same_in, is_touched, line_at, loses_one_address as loses_one_address_in, op_address as op_address_in, op_touches};
+ghost use Rattle.pmt_entries.specs.Scratch.{AreAsked, address_at, event_touches, first_line as first_line_in, is_all, is_noted as is_noted_in, is_same as is_same_in, is_touched, later, line_at, loses_one_address as loses_one_address_in, op_address as op_address_in, op_touches};
 
 use crate::place_sets::Places;
 use pmt_fates::{PlaceRow, Standing, standing_of};
 use pmt_hints::claims::{Claims, ask_for, is_line_claimed, note_line, note_range};
-use pmt_model::{Addr, Format, Op, OutOfMemory, Trace, line_of};
+use pmt_model::{Addr, Event, Format, Op, OutOfMemory, Trace, line_of};
 use std::alloc::Global;
 use std::collections::{HashMap, HashSet};
 
@@ -76,13 +76,14 @@ fn is_same(first: Option<Addr>, last: Option<Addr>) -> bool
     first.get() == last.get()
 }
 
-// Those of these stores to lines that an event flushes, or an assertion has a byte of.
+// Those of these stores to lines that an event after the first of them flushes, or an assertion after it has a byte of: what clears lines
+// before is no use of them.
 pub(crate) fn touched_stores(
     alloc: Global,
     trace: &Trace,
     stores: &[u64],
 ) -> Result<Vec<u64>, OutOfMemory>
-    ensures { IfOk result (λ found. found.items ≡ filter (is_touched trace.now) stores.now) }
+    ensures { IfOk result (λ found. found.items ≡ filter (is_touched trace.now stores.now) stores.now) }
 {
     if stores.is_empty() {
         return Ok(Vec::new(alloc));
@@ -114,12 +115,12 @@ fn is_noted(trace: &Trace, lines: &Claims, number: u64) -> bool
     is_line_claimed(lines, line_stored(trace, number))
 }
 
-// The lines of these stores, each by whether an event flushes it, or an assertion has a byte of it.
+// The lines of these stores, each by whether an event after the first of them flushes it, or an assertion has a byte of it.
 fn touched_lines(alloc: Global, trace: &Trace, stores: &[u64]) -> Result<Claims, OutOfMemory>
-    ensures { IfOk result (λ lines. (start : _) × AreAsked trace.now stores.now start × ((l : ℕ) → claim_at lines l ≡ or_so (list_any (event_touches trace.now.format l) trace.now.events) (claim_at start l))) }
+    ensures { IfOk result (λ lines. (start : _) × AreAsked trace.now stores.now start × ((l : ℕ) → claim_at lines l ≡ or_so (list_any (event_touches trace.now.format l) (later trace.now stores.now)) (claim_at start l))) }
 {
     let mut lines = stored_lines(alloc, trace, stores)?;
-    note_events(&mut lines, trace)?;
+    note_events(&mut lines, trace.format(), later_events(trace, stores))?;
     Ok(lines)
 }
 
@@ -134,14 +135,20 @@ fn stored_lines(alloc: Global, trace: &Trace, stores: &[u64]) -> Result<Claims, 
     Ok(lines)
 }
 
-// Notes the lines that the events of the trace flush or assert.
-fn note_events(lines: &mut Claims, trace: &Trace) -> Result<(), OutOfMemory>
-    ensures { OnOk result ((l : ℕ) → claim_at lines.new l ≡ or_so (list_any (event_touches trace.now.format l) trace.now.events) (claim_at lines.old l)) }
+// The events after the first of these stores.
+fn later_events<'a>(trace: &'a Trace, stores: &[u64]) -> &'a [Event]
+    ensures { result.now ≡ later trace.now stores.now }
 {
-    let format = trace.format();
+    let first = stores.first().copied().unwrap_or(0) as usize;
     let events = trace.events();
-    for index in 0..events.len() {
-        let event = events[index];
+    &events[first.min(events.len())..]
+}
+
+// Notes the lines that the events flush or assert.
+fn note_events(lines: &mut Claims, format: Format, events: &[Event]) -> Result<(), OutOfMemory>
+    ensures { OnOk result ((l : ℕ) → claim_at lines.new l ≡ or_so (list_any (event_touches format l) events.now) (claim_at lines.old l)) }
+{
+    for event in events {
         note_op(lines, format, event.op)?;
     }
     Ok(())

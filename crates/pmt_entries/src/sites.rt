@@ -32,8 +32,8 @@ pub struct Site {
     pub sign: Option<u64>,
     /// Fewer than half of its stores are lost or late, and each call path by which one is has none in time. Without labels it is not so.
     pub has_contrast: bool,
-    /// It loses all that it stores, in lines that nothing flushes or asserts: to one address again and again, or first to a line of a site that
-    /// does so.
+    /// It loses all that it stores, in lines that nothing flushes or asserts after the first lost store of the trace: to one address again and
+    /// again, or first to a line of a site that does so.
     pub is_scratch: bool,
     /// Each of its stores that is lost or late is claimed by an assertion that passes.
     pub is_claimed: bool,
@@ -50,7 +50,7 @@ pub(crate) struct Facts {
     pub(crate) has_paths: bool,
     // The sites that have a path by which some stores are lost or late and others are in time.
     pub(crate) mixed: Places,
-    // The sites that lose a store to a line that an event flushes or an assertion has a byte of.
+    // The sites that lose a store to a line that an event after the first lost one flushes, or an assertion has a byte of.
     pub(crate) touched: Places,
     // The first lines of the sites that are scratch by themselves.
     pub(crate) scratch: Lines,

@@ -4,5 +4,5 @@ use Rattle.pmt_hints.specs.Claiming.{claim_at, or_so}
 use Rattle.pmt_entries.specs.Scratch.{event_touches}
 use Rattle.pmt_entries.proofs.scratch.note_events.Given as goal
 
-abbrev pub invariant-loop-index : goal.invariant-loop-index
-invariant-loop-index l = (m : ℕ) → claim_at l.lines m ≡ or_so (list_any (event_touches l.trace.format m) (take l.index l.trace.events)) (claim_at l.initial.lines m)
+abbrev pub invariant-loop-event : goal.invariant-loop-event
+invariant-loop-event l = (m : ℕ) → claim_at l.lines m ≡ or_so (list_any (event_touches l.format m) (take l.event-index l.events)) (claim_at l.initial.lines m)
