@@ -7,7 +7,7 @@ use Rattle.pmt_model.specs.Traces.{Recording, act, has_line}
 use Rattle.pmt_model.specs.Pushing.{with_event}
 use Rattle.pmt_book.specs.declared.live.LiveLines.{LiveLines}
 use Rattle.pmt_rows.specs.declared.rows.Row.{Row}
-use Rattle.pmt_tables.specs.Places.{IsFound}
+use Rattle.pmt_tables.specs.Slots.{IsFound}
 use Rattle.pmt_book.specs.Live.{IsLiveWith}
 use Rattle.pmt_tables.proofs.ListLemmas.{list_any-has_line, not-among}
 use Rattle.pmt_book.specs.Ends.{whole_history}
@@ -15,10 +15,10 @@ use Rattle.pmt_book.proofs.HistoryLemmas.{whole_history-with_event}
 
 -- What a book of this trace keeps of its lines.
 abbrev pub Keep : Recording → LiveLines → Type 0
-Keep T live = IsLiveWith live.rows.places (whole_history T) live
+Keep T live = IsLiveWith live.rows.slots (whole_history T) live
 
--- the lines that are known are those that have a place
-pub with-placed : (lines : List ℕ) (h : List Act) (live : LiveLines) → IsLiveWith lines h live → IsLiveWith live.rows.places h live
+-- the lines that are known are those that have a slot
+pub with-placed : (lines : List ℕ) (h : List Act) (live : LiveLines) → IsLiveWith lines h live → IsLiveWith live.rows.slots h live
 with-placed lines h live is = subst (λ (ls : List ℕ). IsLiveWith ls h live) (sym is.rows.placed) is
 
 -- one more event
@@ -30,9 +30,9 @@ keep-event T e a new lines live is is_act known =
     with-placed lines (whole_history new) live
     (subst P (sym (ap whole_history is ∙ whole_history-with_event T e ∙ ap (λ (b : Act). b ∷ whole_history T) is_act)) known)
 
--- a line without a place has no stores, and its front is 0
-pub no-stores : (T : Recording) (l : ℕ) (live : LiveLines) → Keep T live → IsFound l live.rows.places None → (count l (whole_history T) ≡ 0) × (front l (whole_history T) ≡ 0)
+-- a line without a slot has no stores, and its front is 0
+pub no-stores : (T : Recording) (l : ℕ) (live : LiveLines) → Keep T live → IsFound l live.rows.slots None → (count l (whole_history T) ≡ 0) × (front l (whole_history T) ≡ 0)
 no-stores T l live keep none =
-    let absent : has_line l live.rows.places ≡ false = sym (list_any-has_line l live.rows.places) ∙ not-among live.rows.places l none in
+    let absent : has_line l live.rows.slots ≡ false = sym (list_any-has_line l live.rows.slots) ∙ not-among live.rows.slots l none in
     let row = keep.rows.others l absent in
     (ap (λ (y : Row). y.last_store) row, ap (λ (y : Row). y.safe) row)

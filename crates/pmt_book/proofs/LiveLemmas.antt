@@ -12,7 +12,7 @@ use Rattle.pmt_laws.proofs.PassLemmas.{fence_raises}
 use Rattle.pmt_rows.specs.declared.rows.Rows.{Rows}
 use Rattle.pmt_rows.specs.declared.open.OpenFlush.{OpenFlush}
 use Rattle.pmt_rows.specs.Linked.{raised}
-use Rattle.pmt_tables.specs.Places.{IsPlaceOf}
+use Rattle.pmt_tables.specs.Slots.{IsSlotOf}
 use Rattle.pmt_rows.specs.Known.{AreRows, row_by}
 use Rattle.pmt_rows.specs.Waiting.{Waiting, waiting_by, list_at, raise_all}
 use Rattle.pmt_rows.specs.Fencing.{waits_all}
@@ -109,13 +109,13 @@ module _ (lines : List ℕ) (h : List Act) (live : LiveLines) (is : IsLiveWith l
       none true = refl
       none false = refl
 
-  pub live-flush : (t l p : ℕ) (f : OpenFlush) (new : LiveLines) → f.number ≡ suc (length h) → f.place ≡ p → f.store ≡ count l h → IsPlaceOf l p lines → new.rows ≡ live.rows →
+  pub live-flush : (t l p : ℕ) (f : OpenFlush) (new : LiveLines) → f.number ≡ suc (length h) → f.slot ≡ p → f.store ≡ count l h → IsSlotOf l p lines → new.rows ≡ live.rows →
       (list_at t new.waiting ≡ list_at t live.waiting ++ f ∷ []) →
       ((u : ℕ) → u ≢ t → list_at u new.waiting ≡ list_at u live.waiting) → IsLiveWith lines (Flushes t l ∷ h) new
-  live-flush t l p f new number place stores at same own others = record {
+  live-flush t l p f new number slot stores at same own others = record {
     rows = rw same is.rows;
     waiting =
-        (waits-on count).flush lines t l h f live.waiting new.waiting (omega (arith, place, slice_get_within lines p l at)) (ap (λ i. get_or lines i 0) place ∙ get_or_from_slice_get lines p l 0 at) number stores own others
+        (waits-on count).flush lines t l h f live.waiting new.waiting (omega (arith, slot, slice_get_within lines p l at)) (ap (λ i. get_or lines i 0) slot ∙ get_or_from_slice_get lines p l 0 at) number stores own others
         is.waiting;
   }
 
@@ -137,17 +137,17 @@ module _ (lines : List ℕ) (h : List Act) (live : LiveLines) (is : IsLiveWith l
   }
 
   -- each open flush is of a line
-  pub all-within : (t : ℕ) (flushes : List OpenFlush) → flushes ≡ list_at t live.waiting → All (λ f. f.place < length lines) flushes
+  pub all-within : (t : ℕ) (flushes : List OpenFlush) → flushes ≡ list_at t live.waiting → All (λ f. f.slot < length lines) flushes
   all-within t flushes of = rw of (is.waiting.within t)
 
-  -- the line of the row at a place
-  pub row-at : (p : ℕ) → p < length live.rows.rows.items → IsPlaceOf (get_or lines p 0) p lines
+  -- the line of the row at a slot
+  pub row-at : (p : ℕ) → p < length live.rows.rows.items → IsSlotOf (get_or lines p 0) p lines
   row-at p within = slice_get-get_or lines p 0 (omega (arith, within, ap length is.rows.rows, length-map lines (row_by (λ k. count k h) (λ k. front k h) (λ k. 0))))
 
--- a line's place is that of a row
-pub has-place : (lines : List ℕ) (h : List Act) (l p : ℕ) (live : LiveLines) → IsPlaceOf l p live.rows.places → IsLiveWith lines h live → p < length live.rows.rows.items
-has-place lines h l p live at is = Rattle.pmt_rows.proofs.RowLemmas.has-place lines (λ k. count k h) (λ k. front k h) (λ k. 0) live.rows is.rows l p at
+-- a line's slot is that of a row
+pub has-slot : (lines : List ℕ) (h : List Act) (l p : ℕ) (live : LiveLines) → IsSlotOf l p live.rows.slots → IsLiveWith lines h live → p < length live.rows.rows.items
+has-slot lines h l p live at is = Rattle.pmt_rows.proofs.RowLemmas.has-slot lines (λ k. count k h) (λ k. front k h) (λ k. 0) live.rows is.rows l p at
 
 -- and one of the lines that are known
-pub place-in : (lines : List ℕ) (h : List Act) (l p : ℕ) (live : LiveLines) → IsPlaceOf l p live.rows.places → IsLiveWith lines h live → IsPlaceOf l p lines
-place-in lines h l p live at is = subst (IsPlaceOf l p) is.rows.placed at
+pub slot-in : (lines : List ℕ) (h : List Act) (l p : ℕ) (live : LiveLines) → IsSlotOf l p live.rows.slots → IsLiveWith lines h live → IsSlotOf l p lines
+slot-in lines h l p live at is = subst (IsSlotOf l p) is.rows.placed at

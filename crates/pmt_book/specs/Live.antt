@@ -7,13 +7,13 @@ use Rattle.pmt_rows.specs.Known.{AreRows}
 use Rattle.pmt_rows.specs.Waiting.{AreWaitingBy}
 use Rattle.pmt_book.specs.declared.live.LiveLines.{LiveLines}
 
--- These are known after the history: lines with a place, among them all that have a store, each with its count and its front, and the
--- flushes of each thread since its last fence, each with the place of its line.
+-- These are known after the history: lines with a slot, among them all that have a store, each with its count and its front, and the
+-- flushes of each thread since its last fence, each with the slot of its line.
 pub record IsLiveWith (lines : List ℕ) (h : List Act) (live : LiveLines) : Type 0 where
   pub rows : AreRows lines (λ l. count l h) (λ l. front l h) (λ l. 0) live.rows
   pub waiting : AreWaitingBy count lines h live.waiting
 
--- They are known after the history, and the lines with a place are those that were stored or flushed, in order of first appearance.
+-- They are known after the history, and the lines with a slot are those that were stored or flushed, in order of first appearance.
 abbrev pub IsLive : List Act → LiveLines → Type 0
 IsLive h live = IsLiveWith (lines_of h) h live
 

@@ -37,7 +37,7 @@ impl Model for Book {
 
     ghost view = { λ b. b.trace };
 
-    ghost invariant = { λ b. IsLiveWith b.lines.rows.places (whole_history b.trace) b.lines };
+    ghost invariant = { λ b. IsLiveWith b.lines.rows.slots (whole_history b.trace) b.lines };
 }
 
 // Adds the event at the end of the trace.
@@ -113,7 +113,7 @@ impl Book {
         ensures { result ≡ last_front self.now line }
     {
         match self.lines.find(line) {
-            Some(place) => self.lines.front(place) as u64,
+            Some(slot) => self.lines.front(slot) as u64,
             None => 0,
         }
     }
@@ -123,7 +123,7 @@ impl Book {
         ensures { result ≡ last_count self.now line }
     {
         match self.lines.find(line) {
-            Some(place) => self.lines.count(place) as u64,
+            Some(slot) => self.lines.count(slot) as u64,
             None => 0,
         }
     }
@@ -194,10 +194,10 @@ impl Book {
         ensures err { OnErr result (self.new ≡ self.old) }
     {
         let line = line_of(self.trace.format(), store.addr());
-        let place = self.lines.place_of(line)?;
+        let slot = self.lines.slot_of(line)?;
         let op = Op::Store(store);
         push(&mut self.trace, Event { thread, op })?;
-        self.lines.store(place);
+        self.lines.store(slot);
         Ok(())
     }
 
@@ -209,9 +209,9 @@ impl Book {
     {
         let thread = event.thread;
         let line = line_of(self.trace.format(), addr);
-        let place = self.lines.place_of(line)?;
+        let slot = self.lines.slot_of(line)?;
         let number = self.trace.len() as u32 + 1;
-        self.lines.flush(thread, place, number)?;
+        self.lines.flush(thread, slot, number)?;
         match push(&mut self.trace, event) {
             Ok(()) => Ok(()),
             Err(_) => {
@@ -227,10 +227,10 @@ impl Book {
         ensures err { OnErr result (self.new ≡ self.old) }
     {
         let line = line_of(self.trace.format(), addr);
-        let place = self.lines.place_of(line)?;
+        let slot = self.lines.slot_of(line)?;
         let op = Op::Clflush(addr);
         push(&mut self.trace, Event { thread, op })?;
-        self.lines.clflush(place);
+        self.lines.clflush(slot);
         Ok(())
     }
 

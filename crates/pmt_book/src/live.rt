@@ -6,7 +6,7 @@ ghost use Rattle.pmt_model.specs.Traces.{with_line};
 ghost use Rattle.pmt_model.specs.Values.{Written};
 ghost use Rattle.pmt_rows.specs.Fencing.{waits_all};
 ghost use Rattle.pmt_rows.specs.Known.{AreRows};
-ghost use Rattle.pmt_tables.specs.Places.{IsFound, IsPlaceOf};
+ghost use Rattle.pmt_tables.specs.Slots.{IsFound, IsSlotOf};
 ghost use Rattle.pmt_rows.specs.Waiting.{raise_all as raised_by};
 ghost use Rattle.pmt_book.specs.Live.{IsLive, IsLiveWith, IsKnown, HasRoom, Keeps};
 
@@ -15,7 +15,7 @@ use pmt_rows::{OpenFlush, OpenFlushes, Rows};
 use std::alloc::Global;
 
 /// The lines of a trace under way, each with its count and its front, and the flushes of each thread since its last fence. It is told of
-/// each act when it comes; an assertion changes nothing. A line has a place before an act on it is told; an act takes at most one look-up,
+/// each act when it comes; an assertion changes nothing. A line has a slot before an act on it is told; an act takes at most one look-up,
 /// and none where the line is one of those found last. Rows are told counts here, not numbers.
 #[derive(Drop)]
 pub struct LiveLines {
@@ -34,79 +34,79 @@ impl LiveLines {
         }
     }
 
-    /// The lines that have a place, in order of their places.
+    /// The lines that have a slot, in order of their slots.
     pub fn lines(&self) -> &[u64]
-        ensures { result.now ≡ self.now.rows.places }
+        ensures { result.now ≡ self.now.rows.slots }
     {
-        self.rows.places().lines()
+        self.rows.slots().lines()
     }
 
-    /// The place of the line, which it gets if it has none yet, below 2^32.
+    /// The slot of the line, which it gets if it has none yet, below 2^32.
     ///
     /// # Errors
-    /// Where memory was refused, or 4,294,967,295 lines have a place. All that is known stays as it was.
+    /// Where memory was refused, or 4,294,967,295 lines have a slot. All that is known stays as it was.
     #[inline(always)]
-    pub fn place_of(&mut self, line: u64) -> Result<usize, OutOfMemory>
-        ensures here { IfOk result (λ place. IsPlaceOf line place self.new.rows.places) }
-        ensures small { IfOk result (λ place. place < 2 ^ 32) }
+    pub fn slot_of(&mut self, line: u64) -> Result<usize, OutOfMemory>
+        ensures here { IfOk result (λ slot. IsSlotOf line slot self.new.rows.slots) }
+        ensures small { IfOk result (λ slot. slot < 2 ^ 32) }
         ensures live { OnOk result ((lines : List ℕ) (h : List Act) → IsLiveWith lines h self.old → IsLiveWith (with_line line lines) h self.new) }
         ensures kept { OnErr result (Keeps self.old self.new) }
     {
-        let place = self.rows.place_of(line)?;
-        Ok(place)
+        let slot = self.rows.slot_of(line)?;
+        Ok(slot)
     }
 
-    /// The place of the line, if it has one.
+    /// The slot of the line, if it has one.
     pub fn find(&self, line: u64) -> Option<usize>
-        ensures { IsFound line self.now.rows.places result }
+        ensures { IsFound line self.now.rows.slots result }
     {
-        self.rows.places().find(line)
+        self.rows.slots().find(line)
     }
 
-    /// How many stores there are to the line at this place.
+    /// How many stores there are to the line at this slot.
     #[inline(always)]
-    pub fn count(&self, place: usize) -> u32
-        requires { place < length self.now.rows.rows.items }
-        ensures { (lines : List ℕ) (h : List Act) (l : ℕ) → IsPlaceOf l place lines → IsLiveWith lines h self.now → result ≡ count_in l h }
+    pub fn count(&self, slot: usize) -> u32
+        requires { slot < length self.now.rows.rows.items }
+        ensures { (lines : List ℕ) (h : List Act) (l : ℕ) → IsSlotOf l slot lines → IsLiveWith lines h self.now → result ≡ count_in l h }
     {
-        self.rows.row(place).last_store
+        self.rows.row(slot).last_store
     }
 
-    /// The front of the line at this place.
+    /// The front of the line at this slot.
     #[inline(always)]
-    pub fn front(&self, place: usize) -> u32
-        requires { place < length self.now.rows.rows.items }
-        ensures { (lines : List ℕ) (h : List Act) (l : ℕ) → IsPlaceOf l place lines → IsLiveWith lines h self.now → result ≡ front_in l h }
+    pub fn front(&self, slot: usize) -> u32
+        requires { slot < length self.now.rows.rows.items }
+        ensures { (lines : List ℕ) (h : List Act) (l : ℕ) → IsSlotOf l slot lines → IsLiveWith lines h self.now → result ≡ front_in l h }
     {
-        self.rows.row(place).safe
+        self.rows.row(slot).safe
     }
 
-    /// A store to the line at this place.
+    /// A store to the line at this slot.
     #[inline(always)]
-    pub fn store(&mut self, place: usize)
-        requires place { place < length self.old.rows.rows.items }
+    pub fn store(&mut self, slot: usize)
+        requires slot { slot < length self.old.rows.rows.items }
         requires room { HasRoom self.old }
-        ensures { (lines : List ℕ) (h : List Act) (l : ℕ) (w : Written) → IsPlaceOf l place lines → IsLiveWith lines h self.old → IsLiveWith lines (Stores l w ∷ h) self.new }
+        ensures { (lines : List ℕ) (h : List Act) (l : ℕ) (w : Written) → IsSlotOf l slot lines → IsLiveWith lines h self.old → IsLiveWith lines (Stores l w ∷ h) self.new }
     {
-        let count = self.count(place);
-        self.rows.store(place, count + 1);
+        let count = self.count(slot);
+        self.rows.store(slot, count + 1);
     }
 
-    /// A flush (clwb, clflushopt) of the line at this place by the thread, the event with this number.
+    /// A flush (clwb, clflushopt) of the line at this slot by the thread, the event with this number.
     ///
     /// # Errors
     /// Where memory was refused. All that is known stays as it was.
     #[inline(always)]
-    pub fn flush(&mut self, thread: u8, place: usize, number: u32) -> Result<(), OutOfMemory>
-        requires place { place < length self.old.rows.rows.items }
-        requires small { place < 2 ^ 32 }
-        ensures live { OnOk result ((lines : List ℕ) (h : List Act) (l : ℕ) → number ≡ suc (length h) → IsPlaceOf l place lines → IsLiveWith lines h self.old → IsLiveWith lines (Flushes thread l ∷ h) self.new) }
+    pub fn flush(&mut self, thread: u8, slot: usize, number: u32) -> Result<(), OutOfMemory>
+        requires slot { slot < length self.old.rows.rows.items }
+        requires small { slot < 2 ^ 32 }
+        ensures live { OnOk result ((lines : List ℕ) (h : List Act) (l : ℕ) → number ≡ suc (length h) → IsSlotOf l slot lines → IsLiveWith lines h self.old → IsLiveWith lines (Flushes thread l ∷ h) self.new) }
         ensures kept { OnErr result (Keeps self.old self.new) }
     {
         let flush = OpenFlush {
             number,
-            place: place as u32,
-            store: self.count(place),
+            slot: slot as u32,
+            store: self.count(slot),
         };
         self.waiting.add(thread, flush)?;
         Ok(())
@@ -119,13 +119,13 @@ impl LiveLines {
         self.waiting.take_back(thread);
     }
 
-    /// A clflush of the line at this place.
+    /// A clflush of the line at this slot.
     #[inline(always)]
-    pub fn clflush(&mut self, place: usize)
-        requires { place < length self.old.rows.rows.items }
-        ensures { (lines : List ℕ) (h : List Act) (l : ℕ) → IsPlaceOf l place lines → IsLiveWith lines h self.old → IsLiveWith lines (Clflushes l ∷ h) self.new }
+    pub fn clflush(&mut self, slot: usize)
+        requires { slot < length self.old.rows.rows.items }
+        ensures { (lines : List ℕ) (h : List Act) (l : ℕ) → IsSlotOf l slot lines → IsLiveWith lines h self.old → IsLiveWith lines (Clflushes l ∷ h) self.new }
     {
-        self.rows.clflush(place, 0);
+        self.rows.clflush(slot, 0);
     }
 
     /// A fence by the thread. It takes a step for each of its flushes.
@@ -154,11 +154,11 @@ impl LiveLines {
 
 // The flushes raise the fronts of their lines, from the newest to the oldest.
 fn raise_all(rows: &mut Rows, flushes: &[OpenFlush])
-    requires { (lines : List ℕ) × (last : ℕ → ℕ) × (safe : ℕ → ℕ) × (flush : ℕ → ℕ) × AreRows lines last safe flush rows.old × All (λ f. f.place < length lines) flushes.now }
-    ensures { (lines : List ℕ) (last safe flush : ℕ → ℕ) → All (λ f. f.place < length lines) flushes.now → AreRows lines last safe flush rows.old → AreRows lines last (raised_by (waits_all lines flushes.now) safe) flush rows.new }
+    requires { (lines : List ℕ) × (last : ℕ → ℕ) × (safe : ℕ → ℕ) × (flush : ℕ → ℕ) × AreRows lines last safe flush rows.old × All (λ f. f.slot < length lines) flushes.now }
+    ensures { (lines : List ℕ) (last safe flush : ℕ → ℕ) → All (λ f. f.slot < length lines) flushes.now → AreRows lines last safe flush rows.old → AreRows lines last (raised_by (waits_all lines flushes.now) safe) flush rows.new }
 {
     for index in (0..flushes.len()).rev() {
         let flush = flushes[index];
-        rows.raise(flush.place as usize, flush.store);
+        rows.raise(flush.slot as usize, flush.store);
     }
 }

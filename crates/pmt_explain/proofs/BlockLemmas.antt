@@ -7,8 +7,8 @@ use Rattle.std.proofs.lemmas.List.{get_or_append_left, get_or_default, get_or_pu
 use Rattle.std.proofs.lemmas.Option.{slice_get_within, same_Some}
 use Rattle.pmt_model.specs.Values.{Written, IsStore}
 use Rattle.pmt_model.specs.Machine.{writes}
-use Rattle.pmt_tables.specs.Places.{IsPlaceOf, insert_line}
-use Rattle.pmt_tables.proofs.ListLemmas.{one-place, push-cases, get-left, among}
+use Rattle.pmt_tables.specs.Slots.{IsSlotOf, insert_line}
+use Rattle.pmt_tables.proofs.ListLemmas.{one-slot, push-cases, get-left, among}
 use Rattle.pmt_tables.specs.Lasts.{last_at, is_in, with_store}
 use Rattle.pmt_tables.proofs.LineLemmas.{byte-from_writes}
 use Rattle.pmt_explain.specs.declared.blocks.Blocks.{Blocks}
@@ -24,28 +24,28 @@ blocks-none t places stores words = record {
   words = ap length words ∙ ap (λ ps. length ps * 8) (sym places);
 }
 
-pub place-none : (t : Blocks) → t.places ≡ [] → (k p : ℕ) → IsPlaceOf k p t.places → ⊥
+pub place-none : (t : Blocks) → t.places ≡ [] → (k p : ℕ) → IsSlotOf k p t.places → ⊥
 place-none t places k p at = let e = slice_get_within t.places p k at in omega (arith, e, ap length places)
 
 pub tells-none : (t : Blocks) → t.places ≡ [] → (b : ℕ) → Tells t b 0
 tells-none t places b = inr (place-none t places (b / 64), refl)
 
 -- where a block stands, its byte is told
-pub told-at : (t : Blocks) (b x p : ℕ) → AreBlocks t → Tells t b x → IsPlaceOf (b / 64) p t.places → byte_at t.words p b ≡ x
-told-at t b x p are (inl at) here = let e = one-place t.places (b / 64) p at.0 are.once here at.1 in ap (λ q. byte_at t.words q b) e ∙ at.2
+pub told-at : (t : Blocks) (b x p : ℕ) → AreBlocks t → Tells t b x → IsSlotOf (b / 64) p t.places → byte_at t.words p b ≡ x
+told-at t b x p are (inl at) here = let e = one-slot t.places (b / 64) p at.0 are.once here at.1 in ap (λ q. byte_at t.words q b) e ∙ at.2
 told-at t b x p are (inr none) here = absurd (none.0 p here)
 
-pub told-none : (t : Blocks) (b x : ℕ) → Tells t b x → ((p : ℕ) → IsPlaceOf (b / 64) p t.places → ⊥) → x ≡ 0
+pub told-none : (t : Blocks) (b x : ℕ) → Tells t b x → ((p : ℕ) → IsSlotOf (b / 64) p t.places → ⊥) → x ≡ 0
 told-none t b x (inl at) none = absurd (none at.0 at.1)
 told-none t b x (inr out) none = out.1
 
 -- the words of a block that has a place
-pub word-within : (t : Blocks) (k p i : ℕ) → AreBlocks t → IsPlaceOf k p t.places → i < 8 → p * 8 + i < length t.words
+pub word-within : (t : Blocks) (k p i : ℕ) → AreBlocks t → IsSlotOf k p t.places → i < 8 → p * 8 + i < length t.words
 word-within t k p i are at few = omega (arith, few, are.words, slice_get_within t.places p k at)
 
 -- ---- One block more
 
-pub absent : (k : ℕ) (ks : List ℕ) → true ≡ not (list_any (nat_eq k) ks) → (p : ℕ) → IsPlaceOf k p ks → ⊥
+pub absent : (k : ℕ) (ks : List ℕ) → true ≡ not (list_any (nat_eq k) ks) → (p : ℕ) → IsSlotOf k p ks → ⊥
 absent k ks new p at = let e : true ≡ false = subst (λ b. true ≡ not b) (among ks k p at) new in absurd (cc)
 
 pub insert-new : (k : ℕ) (ks : List ℕ) → true ≡ not (list_any (nat_eq k) ks) → insert_line ks k ≡ ks ++ k ∷ []
@@ -55,7 +55,7 @@ insert-new k ks new = go (list_any (nat_eq k) ks) new
     go true e = absurd (cc)
     go false e = refl
 
-module _ (k m p : ℕ) (old new : Blocks) (are : AreBlocks old) (once : IsDistinct nat_eq new.places) (here : IsPlaceOf k p new.places) (small : p < 4294967296) where
+module _ (k m p : ℕ) (old new : Blocks) (are : AreBlocks old) (once : IsDistinct nat_eq new.places) (here : IsSlotOf k p new.places) (small : p < 4294967296) where
   -- one that stands there already
   pub opens-known : new ≡ old → Opens k m p old new
   opens-known same = record {
@@ -72,7 +72,7 @@ module _ (k m p : ℕ) (old new : Blocks) (are : AreBlocks old) (once : IsDistin
   -- one that is new
   pub opens-new : new.places ≡ old.places ++ k ∷ [] → new.stores.items ≡ old.stores.items ++ record { first = m; last = m } ∷ [] → length new.words ≡ length old.words + 8 →
       ((i j : ℕ) → length old.words ≤ i → i < length new.words → j < 8 → last_at new.words i j ≡ 0) → ((i j : ℕ) → i < length old.words → j < 8 → last_at new.words i j ≡ last_at old.words i j) →
-      ((q : ℕ) → IsPlaceOf k q old.places → ⊥) → Opens k m p old new
+      ((q : ℕ) → IsSlotOf k q old.places → ⊥) → Opens k m p old new
   opens-new places added many none others fresh = record {
     are = record {
       once = once;
@@ -85,7 +85,7 @@ module _ (k m p : ℕ) (old new : Blocks) (are : AreBlocks old) (once : IsDistin
     stores = stores;
   }
     where
-      parts : (j q : ℕ) → IsPlaceOf j q new.places → IsPlaceOf j q old.places ⊎ ((q ≡ length old.places) × (k ≡ j))
+      parts : (j q : ℕ) → IsSlotOf j q new.places → IsSlotOf j q old.places ⊎ ((q ≡ length old.places) × (k ≡ j))
       parts j q at = push-cases old.places k j q (ap (λ ps. slice_get ps q) (sym places) ∙ at)
 
       told : (b x : ℕ) → Tells old b x → Tells new b x
@@ -98,7 +98,7 @@ module _ (k m p : ℕ) (old new : Blocks) (are : AreBlocks old) (once : IsDistin
         | inr other ↦ inr ((λ q at. elim (parts (b / 64) q at) [ inl before ↦ out.0 q before | inr last ↦ other (sym last.1) ]), out.1)
       ]
 
-      stores : (j q : ℕ) → IsPlaceOf j q new.places → (IsKept j q old new × ((stores_at new q).last ≡ (stores_at old q).last)) ⊎ ((j ≡ k) × IsAdded j q m old new)
+      stores : (j q : ℕ) → IsSlotOf j q new.places → (IsKept j q old new × ((stores_at new q).last ≡ (stores_at old q).last)) ⊎ ((j ≡ k) × IsAdded j q m old new)
       stores j q at = elim (parts j q at) [
         | inl before ↦
             let within : q < length old.stores.items = omega (arith, slice_get_within old.places q j before, are.stores) in
@@ -107,7 +107,7 @@ module _ (k m p : ℕ) (old new : Blocks) (are : AreBlocks old) (once : IsDistin
         | inr last ↦
             let end : q ≡ length old.stores.items = omega (arith, last.0, are.stores) in
             let same : stores_at new q ≡ record { first = m; last = m } = ap (λ xs. get_or xs q (record { first = 0; last = 0 })) added ∙ get_or_push old.stores.items (record { first = m; last = m }) (record { first = 0; last = 0 }) q (sym end) in
-            inr (sym last.1, record { none = subst (λ i. (r : ℕ) → IsPlaceOf i r old.places → ⊥) last.1 fresh; first = ap (λ (s : Stores). s.first) same })
+            inr (sym last.1, record { none = subst (λ i. (r : ℕ) → IsSlotOf i r old.places → ⊥) last.1 fresh; first = ap (λ (s : Stores). s.first) same })
       ]
 
 -- ---- A store that is noted
@@ -147,15 +147,15 @@ module _ (w : Written) (m place a size : ℕ) (old mid new : Blocks) (x : Stores
   abbrev Stored : ℕ → ℕ → Type 0
   Stored b n = (i k : ℕ) → i < length mid.words → k < 8 → last_at new.words i k ≡ with_store (place * 8 + b / 8 % 8) (b % 8) (b % 8 + n) m (last_at mid.words) i k
 
-  here : IsPlaceOf (w.addr / 64) place mid.places
-  here = subst (λ b. IsPlaceOf (b / 64) place mid.places) addr opens.here
+  here : IsSlotOf (w.addr / 64) place mid.places
+  here = subst (λ b. IsSlotOf (b / 64) place mid.places) addr opens.here
 
   changed : Stored w.addr (length w.bytes)
   changed = subst (λ n. Stored w.addr n) bytes (subst (λ b. Stored b size) addr stored)
 
   told : (b y : ℕ) → Tells mid b y → Tells new b (if writes w b then m else y)
   told b y (inl (p, at, is)) =
-      let one : b / 64 ≡ w.addr / 64 → p ≡ place = λ e. one-place mid.places (w.addr / 64) p place opens.are.once (at ∙ ap Some e) here in
+      let one : b / 64 ≡ w.addr / 64 → p ≡ place = λ e. one-slot mid.places (w.addr / 64) p place opens.are.once (at ∙ ap Some e) here in
       let back : p ≡ place → b / 64 ≡ w.addr / 64 = λ e. same_Some (b / 64) (w.addr / 64) (sym at ∙ ap (slice_get mid.places) e ∙ here) in
       inl (
         p,
@@ -174,7 +174,7 @@ module _ (w : Written) (m place a size : ℕ) (old mid new : Blocks) (x : Stores
   within : place < length mid.stores.items
   within = omega (arith, slice_get_within mid.places place (w.addr / 64) here, opens.are.stores)
 
-  before : (k p : ℕ) → IsPlaceOf k p new.places → IsPlaceOf k p mid.places
+  before : (k p : ℕ) → IsSlotOf k p new.places → IsSlotOf k p mid.places
   before k p at = ap (λ ps. slice_get ps p) (sym places) ∙ at
 
   own-stores : stores_at new place ≡ record { first = x.first; last = m }
@@ -186,9 +186,9 @@ module _ (w : Written) (m place a size : ℕ) (old mid new : Blocks) (x : Stores
   other-stores : (p : ℕ) → (p ≡ place → ⊥) → stores_at new p ≡ stores_at mid p
   other-stores p apart = ap (λ xs. get_or xs p (record { first = 0; last = 0 })) set_last ∙ get_or-set_other mid.stores.items place p (record { first = x.first; last = m }) (record { first = 0; last = 0 }) apart
 
-  own : (p : ℕ) → IsPlaceOf (w.addr / 64) p new.places → ((stores_at new p).last ≡ m) × (IsKept (w.addr / 64) p old new ⊎ IsAdded (w.addr / 64) p m old new)
+  own : (p : ℕ) → IsSlotOf (w.addr / 64) p new.places → ((stores_at new p).last ≡ m) × (IsKept (w.addr / 64) p old new ⊎ IsAdded (w.addr / 64) p m old new)
   own p at =
-      let e : p ≡ place = one-place mid.places (w.addr / 64) p place opens.are.once (before (w.addr / 64) p at) here in
+      let e : p ≡ place = one-slot mid.places (w.addr / 64) p place opens.are.once (before (w.addr / 64) p at) here in
       let first : (stores_at new p).first ≡ (stores_at mid p).first = subst (λ q. (stores_at new q).first ≡ (stores_at mid q).first) (sym e) own-first in (
         subst (λ q. (stores_at new q).last ≡ m) (sym e) (ap (λ (s : Stores). s.last) own-stores),
         elim (opens.stores (w.addr / 64) p (before (w.addr / 64) p at)) [
@@ -197,7 +197,7 @@ module _ (w : Written) (m place a size : ℕ) (old mid new : Blocks) (x : Stores
         ],
       )
 
-  others : (k p : ℕ) → k ≢ w.addr / 64 → IsPlaceOf k p new.places → IsKept k p old new × ((stores_at new p).last ≡ (stores_at old p).last)
+  others : (k p : ℕ) → k ≢ w.addr / 64 → IsSlotOf k p new.places → IsKept k p old new × ((stores_at new p).last ≡ (stores_at old p).last)
   others k p apart at =
       let same : stores_at new p ≡ stores_at mid p = other-stores p (λ e. apart (same_Some k (w.addr / 64) (sym (before k p at) ∙ ap (slice_get mid.places) e ∙ here))) in
       elim (opens.stores k p (before k p at)) [

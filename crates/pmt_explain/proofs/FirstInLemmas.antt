@@ -14,7 +14,7 @@ use Rattle.pmt_tables.specs.Lasts.{last_at, IsLeastAbove, IsNewest}
 use Rattle.pmt_tables.specs.Written.{last_number}
 use Rattle.pmt_tables.proofs.LineLemmas.{IsSize, size-of_format, store-of_trace, writes-line}
 use Rattle.pmt_tables.proofs.LineLemmas.IsSize.{Bytes32, Bytes64, Bytes128, Bytes256}
-use Rattle.pmt_tables.specs.Places.{IsPlaceOf}
+use Rattle.pmt_tables.specs.Slots.{IsSlotOf}
 use Rattle.pmt_explain.specs.declared.last_writers.LastWriters.{LastWriters}
 use Rattle.pmt_explain.specs.declared.blocks.Stores.{Stores as BlockStores}
 use Rattle.pmt_explain.specs.Blocks.{stores_at}
@@ -240,28 +240,28 @@ module _ (S : Search) (is : IsSearch S) (i : ℕ) (w : LastWriters) (block : ℕ
   told b from to = ap (λ n. last_number S.trace.now n b) knows.place
 
   -- the words at its place
-  pub block-known : (place : ℕ) → IsPlaceOf block place w.blocks.places → IsBlockIn S i w.blocks.words place block
+  pub block-known : (place : ℕ) → IsSlotOf block place w.blocks.places → IsBlockIn S i w.blocks.words place block
   block-known place at word near k few from to =
       let byte = word * 8 + k in
       let here : byte / 8 ≡ word = omega (arith, few) in
       let rest : byte % 8 ≡ k = omega (arith, few) in
       let own : byte / 64 ≡ block = omega (arith, few, near) in
       let tells = knows.writers.written.each byte (omega (arith, from, knows.low)) (omega (arith, to, knows.high, is.some)) in
-      let found = told-at w.blocks byte (last_number S.trace.now w.place byte) place knows.writers.written.are tells (subst (λ m. IsPlaceOf m place w.blocks.places) (sym own) at) in
+      let found = told-at w.blocks byte (last_number S.trace.now w.place byte) place knows.writers.written.are tells (subst (λ m. IsSlotOf m place w.blocks.places) (sym own) at) in
       ap (λ m. last_at w.blocks.words (place * 8 + m % 8) k) (sym here) ∙ ap (λ m. last_at w.blocks.words (place * 8 + byte / 8 % 8) m) (sym rest) ∙ found ∙ told byte from to
 
   -- no store came to it
-  pub block-none : ((place : ℕ) → IsPlaceOf block place w.blocks.places → ⊥) → (first : Option ByteStore) → GoesOn S i (block * 64) (block * 64 + 64) first first
+  pub block-none : ((place : ℕ) → IsSlotOf block place w.blocks.places → ⊥) → (first : Option ByteStore) → GoesOn S i (block * 64) (block * 64 + 64) first first
   block-none none first = goes-past S is i (block * 64) (block * 64 + 64) first (λ z last more less wants.
       let from = last.inside.0 in
       let to : z.byte < S.high = omega (arith, last.inside.1, is.some) in
       let own : z.byte / 64 ≡ block = omega (arith, more, less) in
       let tells = knows.writers.written.each z.byte (omega (arith, from, knows.low)) (omega (arith, to, knows.high, is.some)) in
-      let never = told-none w.blocks z.byte (last_number S.trace.now w.place z.byte) tells (λ p at. none p (subst (λ m. IsPlaceOf m p w.blocks.places) own at)) in
+      let never = told-none w.blocks z.byte (last_number S.trace.now w.place z.byte) tells (λ p at. none p (subst (λ m. IsSlotOf m p w.blocks.places) own at)) in
       absurd (omega (arith, last-above S.trace.now i z.byte z.store last.last, never, told z.byte from to, ap (λ (o : Option ℕ). unwrap_or o 0) last.last)))
 
   -- what is told of a byte of the block
-  block-byte : (place : ℕ) → IsPlaceOf block place w.blocks.places → (z : ByteStore) → IsLastIn S.trace.now i (range_of S) z → block * 64 ≤ z.byte → z.byte < block * 64 + 64 →
+  block-byte : (place : ℕ) → IsSlotOf block place w.blocks.places → (z : ByteStore) → IsLastIn S.trace.now i (range_of S) z → block * 64 ≤ z.byte → z.byte < block * 64 + 64 →
       (z.byte / 64 ≡ block) × (w.low ≤ z.byte) × (z.byte < w.high) × (last_store_number z.byte (history S.trace.now w.place) ≡ Some z.store) × AreStores S.trace.now w.place w.low w.high block (stores_at w.blocks place)
   block-byte place at z last more less = (
     omega (arith, more, less),
@@ -272,7 +272,7 @@ module _ (S : Search) (is : IsSearch S) (i : ℕ) (w : LastWriters) (block : ℕ
   )
 
   -- its first store comes after the first one so far
-  pub block-after : (place : ℕ) → IsPlaceOf block place w.blocks.places → (store : ℕ) (first : Option ByteStore) → store ≡ (stores_at w.blocks place).first → ((store == 0) || nat_lt (store_bound first) store) ≡ true → store < 4294967296 →
+  pub block-after : (place : ℕ) → IsSlotOf block place w.blocks.places → (store : ℕ) (first : Option ByteStore) → store ≡ (stores_at w.blocks place).first → ((store == 0) || nat_lt (store_bound first) store) ≡ true → store < 4294967296 →
       GoesOn S i (block * 64) (block * 64 + 64) first first
   block-after place at store first is_first after small = goes-past S is i (block * 64) (block * 64 + 64) first (λ z last more less wants.
       let it = block-byte place at z last more less in
@@ -282,7 +282,7 @@ module _ (S : Search) (is : IsSearch S) (i : ℕ) (w : LastWriters) (block : ℕ
       reached-after store first z after small (omega (arith, is_first, it.4.some)) order)
 
   -- its last store is not wanted
-  pub block-past : (place : ℕ) → IsPlaceOf block place w.blocks.places → (store : ℕ) (first : Option ByteStore) → store ≡ (stores_at w.blocks place).last → (S.whole ≡ true) × ¬ Wants S.trace.now S.wanted store → GoesOn S i (block * 64) (block * 64 + 64) first first
+  pub block-past : (place : ℕ) → IsSlotOf block place w.blocks.places → (store : ℕ) (first : Option ByteStore) → store ≡ (stores_at w.blocks place).last → (S.whole ≡ true) × ¬ Wants S.trace.now S.wanted store → GoesOn S i (block * 64) (block * 64 + 64) first first
   block-past place at store first is_last none = goes-past S is i (block * 64) (block * 64 + 64) first (λ z last more less wants.
       let it = block-byte place at z last more less in
       absurd (wants-last S.trace.now S.wanted w.place w.low w.high block z.byte z.store (stores_at w.blocks place) is.is_trace (is.whole none.0) it.4 (subst (λ j. ¬ Wants S.trace.now S.wanted j) is_last none.1) it.0 it.1 it.2 it.3 wants))

@@ -8,7 +8,7 @@ use Rattle.std.proofs.lemmas.List.{get_or-map, get_or-set_same, length-map, map-
 use Rattle.std.proofs.lemmas.Map.Made.{AllPairs-from_IsDistinct}
 use Rattle.std.proofs.lemmas.Option.{get_or_from_slice_get, slice_get_within, same_Some}
 use Rattle.indexmap.specs.IndexSet.{insert_key}
-use Rattle.pmt_tables.specs.Places.{IsFound, IsPlaceOf}
+use Rattle.pmt_tables.specs.Slots.{IsFound, IsSlotOf}
 use Rattle.pmt_explain.specs.declared.numbers.Numbered.{Numbered}
 use Rattle.pmt_explain.specs.Numbers.{Numbers, number_in, number_at, line_in, IsTable, Puts, Reaches}
 
@@ -171,7 +171,7 @@ module _ (lines : List ℕ) (rows : Numbers) (l other p : ℕ) (is_new : Bool) (
       others false k apart = refl
 
 -- where a line stands among the lines, it stands among the rows
-pub at-place : (lines : List ℕ) (rows : Numbers) (l p : ℕ) → IsTable lines rows → IsPlaceOf l p lines → IsAt l p rows
+pub at-place : (lines : List ℕ) (rows : Numbers) (l p : ℕ) → IsTable lines rows → IsSlotOf l p lines → IsAt l p rows
 at-place lines rows l p table at = ap (λ ls. slice_get ls p) (sym table.same) ∙ at
 
 -- a line that is found nowhere has no number
@@ -179,7 +179,7 @@ pub number-unfound : (lines : List ℕ) (rows : Numbers) (l : ℕ) → IsTable l
 number-unfound lines rows l table none = number-none rows l (λ p at. none p (ap (λ ls. slice_get ls p) table.same ∙ at))
 
 -- a line that stands there already
-pub reaches-known : (lines : List ℕ) (rows : Numbers) (l other p : ℕ) → IsTable lines rows → IsPlaceOf l p lines → Reaches l other p rows rows
+pub reaches-known : (lines : List ℕ) (rows : Numbers) (l other p : ℕ) → IsTable lines rows → IsSlotOf l p lines → Reaches l other p rows rows
 reaches-known lines rows l other p table there =
     let at : IsAt l p rows = at-place lines rows l p table there in
     let some = number-read rows l p (record { line = l; number = other }) (apart lines rows table) at in

@@ -11,7 +11,7 @@ use Rattle.pmt_model.specs.Traces.{Recording, act_of, act, history}
 use Rattle.pmt_model.specs.Findings.{last_store_number}
 use Rattle.pmt_laws.proofs.Histories.{history-suc, length-history}
 use Rattle.pmt_laws.proofs.OverwrittenLemmas.{last_store_number-is}
-use Rattle.pmt_tables.specs.Places.{IsPlaceOf}
+use Rattle.pmt_tables.specs.Slots.{IsSlotOf}
 use Rattle.pmt_tables.specs.Written.{last_number}
 use Rattle.pmt_tables.proofs.LineLemmas.{byte-from_writes}
 use Rattle.pmt_explain.specs.declared.blocks.Blocks.{Blocks}
@@ -104,7 +104,7 @@ written-suc T n low high e old new is within notes x = go e.op refl notes
       are = it.are;
       each = λ b from to. subst (Tells new b) (sym (after b)) (it.told b (last_number T n b) (x.each b from to));
       stores = λ k p at. elim (cases_eq k (w.addr / 64)) [
-        | inl here ↦ subst (λ j. AreStores T (suc n) low high j (stores_at new p)) (sym here) (own p (subst (λ j. IsPlaceOf j p new.places) here at))
+        | inl here ↦ subst (λ j. AreStores T (suc n) low high j (stores_at new p)) (sym here) (own p (subst (λ j. IsSlotOf j p new.places) here at))
         | inr apart ↦
             let kept = it.others k p apart at in
             stores-same T n low high k (stores_at old p) (stores_at new p) (λ b near from to. after b ∙ off k b apart near) kept.0.first kept.1 (x.stores k p kept.0.before)
@@ -124,7 +124,7 @@ written-suc T n low high e old new is within notes x = go e.op refl notes
             out true hit = let in_store = byte-from_writes w b hit in absurd (apart (omega (arith, near, in_store.0, in_store.1, it.is_store.inside)))
             out false hit = refl
 
-        own : (p : ℕ) → IsPlaceOf (w.addr / 64) p new.places → AreStores T (suc n) low high (w.addr / 64) (stores_at new p)
+        own : (p : ℕ) → IsSlotOf (w.addr / 64) p new.places → AreStores T (suc n) low high (w.addr / 64) (stores_at new p)
         own p at =
             let own_stores = it.own p at in
             stores-own T n low high (w.addr / 64) w (stores_at new p) own_stores.0 is_store after (first own_stores.1)
@@ -135,7 +135,7 @@ written-suc T n low high e old new is within notes x = go e.op refl notes
                 let before = x.stores (w.addr / 64) p kept.before in
                 (omega (arith, kept.first, before.some), omega (arith, kept.first, before.order, before.by_now), λ b near from to. elim (before.each b near from to) [ inl none ↦ inl none | inr both ↦ inr (omega (arith, kept.first, both.0)) ])
             first (inr added) =
-                (omega (arith, added.first), omega (arith, added.first), λ b near from to. inl (told-none old b (last_number T n b) (x.each b from to) (λ q there. added.none q (subst (λ j. IsPlaceOf j q old.places) near there))))
+                (omega (arith, added.first), omega (arith, added.first), λ b near from to. inl (told-none old b (last_number T n b) (x.each b from to) (λ q there. added.none q (subst (λ j. IsSlotOf j q old.places) near there))))
     go (Clwb a) op kept = same (λ b from to. number (Clwb a) op b) kept
     go (ClflushOpt a) op kept = same (λ b from to. number (ClflushOpt a) op b) kept
     go (Clflush a) op kept = same (λ b from to. number (Clflush a) op b) kept

@@ -3,7 +3,7 @@ use Rattle.std.specs.Prelude.{◌≡◌, ◌≢◌, ℕ, ◌+◌, ◌*◌, ◌/�
 use Rattle.std.specs.List.{IsDistinct}
 use Rattle.pmt_model.specs.Values.{Written, IsStore}
 use Rattle.pmt_model.specs.Machine.{writes}
-use Rattle.pmt_tables.specs.Places.{IsPlaceOf}
+use Rattle.pmt_tables.specs.Slots.{IsSlotOf}
 use Rattle.pmt_tables.specs.Lasts.{last_at}
 use Rattle.pmt_explain.specs.declared.blocks.Blocks.{Blocks}
 use Rattle.pmt_explain.specs.declared.blocks.Stores.{Stores}
@@ -20,7 +20,7 @@ byte_at words p b = last_at words (p * 8 + b / 8 % 8) (b % 8)
 
 -- The last store to the byte at b is x, which is 0 where there is none.
 abbrev pub Tells : Blocks → ℕ → ℕ → Type 0
-Tells t b x = ((p : ℕ) × IsPlaceOf (b / 64) p t.places × (byte_at t.words p b ≡ x)) ⊎ (((p : ℕ) → IsPlaceOf (b / 64) p t.places → ⊥) × (x ≡ 0))
+Tells t b x = ((p : ℕ) × IsSlotOf (b / 64) p t.places × (byte_at t.words p b ≡ x)) ⊎ (((p : ℕ) → IsSlotOf (b / 64) p t.places → ⊥) × (x ≡ 0))
 
 -- The first and the last store to the block at place p.
 abbrev pub stores_at : Blocks → ℕ → Stores
@@ -28,21 +28,21 @@ stores_at t p = get_or t.stores.items p (record { first = 0; last = 0 })
 
 -- Block k stands at place p among both, with the same first store.
 pub record IsKept (k p : ℕ) (old new : Blocks) : Type 0 where
-  pub before : IsPlaceOf k p old.places
+  pub before : IsSlotOf k p old.places
   pub first : (stores_at new p).first ≡ (stores_at old p).first
 
 -- Block k is new, with m as its first store.
 pub record IsAdded (k p m : ℕ) (old new : Blocks) : Type 0 where
-  pub none : (q : ℕ) → IsPlaceOf k q old.places → ⊥
+  pub none : (q : ℕ) → IsSlotOf k q old.places → ⊥
   pub first : (stores_at new p).first ≡ m
 
 -- The block stands at this place, where it is new with store m as its first one, and nothing else is told than before.
 pub record Opens (block m place : ℕ) (old new : Blocks) : Type 0 where
   pub are : AreBlocks new
-  pub here : IsPlaceOf block place new.places
+  pub here : IsSlotOf block place new.places
   pub small : place < 4294967296
   pub told : (b x : ℕ) → Tells old b x → Tells new b x
-  pub stores : (k p : ℕ) → IsPlaceOf k p new.places → (IsKept k p old new × ((stores_at new p).last ≡ (stores_at old p).last)) ⊎ ((k ≡ block) × IsAdded k p m old new)
+  pub stores : (k p : ℕ) → IsSlotOf k p new.places → (IsKept k p old new × ((stores_at new p).last ≡ (stores_at old p).last)) ⊎ ((k ≡ block) × IsAdded k p m old new)
 
 -- The bytes of the store have it as their last one, and the others what they had; so has its block, and it as its first one if it is
 -- new.
@@ -50,5 +50,5 @@ pub record Notes (w : Written) (m : ℕ) (old new : Blocks) : Type 0 where
   pub is_store : IsStore w
   pub are : AreBlocks new
   pub told : (b x : ℕ) → Tells old b x → Tells new b (if writes w b then m else x)
-  pub own : (p : ℕ) → IsPlaceOf (w.addr / 64) p new.places → ((stores_at new p).last ≡ m) × (IsKept (w.addr / 64) p old new ⊎ IsAdded (w.addr / 64) p m old new)
-  pub others : (k p : ℕ) → k ≢ w.addr / 64 → IsPlaceOf k p new.places → IsKept k p old new × ((stores_at new p).last ≡ (stores_at old p).last)
+  pub own : (p : ℕ) → IsSlotOf (w.addr / 64) p new.places → ((stores_at new p).last ≡ m) × (IsKept (w.addr / 64) p old new ⊎ IsAdded (w.addr / 64) p m old new)
+  pub others : (k p : ℕ) → k ≢ w.addr / 64 → IsSlotOf k p new.places → IsKept k p old new × ((stores_at new p).last ≡ (stores_at old p).last)

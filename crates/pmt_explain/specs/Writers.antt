@@ -5,7 +5,7 @@ use Rattle.pmt_model.specs.declared.event.Op.TheVariants.{Store, Clwb, ClflushOp
 use Rattle.pmt_model.specs.Values.{Span, Written}
 use Rattle.pmt_model.specs.Machine.{Stores}
 use Rattle.pmt_model.specs.Traces.{Recording, IsAct}
-use Rattle.pmt_tables.specs.Places.{IsPlaceOf}
+use Rattle.pmt_tables.specs.Slots.{IsSlotOf}
 use Rattle.pmt_tables.specs.Written.{last_number}
 use Rattle.pmt_explain.specs.declared.blocks.Blocks.{Blocks}
 use Rattle.pmt_explain.specs.declared.blocks.Stores.{Stores as BlockStores}
@@ -32,7 +32,7 @@ pub record AreStores (T : Recording) (n low high k : ℕ) (s : BlockStores) : Ty
 pub record AreWritten (T : Recording) (n low high : ℕ) (t : Blocks) : Type 0 where
   pub are : AreBlocks t
   pub each : (b : ℕ) → low ≤ b → b < high → Tells t b (last_number T n b)
-  pub stores : (k p : ℕ) → IsPlaceOf k p t.places → AreStores T n low high k (stores_at t p)
+  pub stores : (k p : ℕ) → IsSlotOf k p t.places → AreStores T n low high k (stores_at t p)
 
 pub record AreWriters (T : Recording) (w : LastWriters) : Type 0 where
   pub within : w.place ≤ length T.events

@@ -4,7 +4,7 @@ ghost use Rattle.std.specs.Prelude.{◌≡◌, ◌<◌, ◌^◌, [], IfOk, OnOk}
 ghost use Rattle.pmt_explain.specs.Blocks.{AreBlocks, Notes, Opens};
 
 use pmt_model::{OutOfMemory, WordStore};
-use pmt_tables::{LinePlaces, Overwrite, Words};
+use pmt_tables::{LineSlots, Overwrite, Words};
 use std::alloc::Global;
 
 /// The first store to a block, and the last one.
@@ -18,7 +18,7 @@ pub(crate) struct Stores {
 #[derive(Drop)]
 pub(crate) struct Blocks {
     // the blocks, each by its number
-    pub(crate) places: LinePlaces,
+    pub(crate) places: LineSlots,
     // of each block, in this order, its first and its last store
     pub(crate) stores: Vec<Stores>,
     // of each block, in this order, eight words
@@ -33,7 +33,7 @@ impl Blocks {
         ensures words { result.words ≡ [] }
     {
         Blocks {
-            places: LinePlaces::new(alloc),
+            places: LineSlots::new(alloc),
             stores: Vec::new(alloc),
             words: Words::new(alloc),
         }

@@ -1,7 +1,7 @@
 //! The first one of the last stores to bytes of a range that is wanted.
 
 ghost use Rattle.std.specs.Prelude.{◌≡◌, ℕ, ◌+◌, ◌*◌, ◌%◌, ◌^◌, ◌<◌, ◌≤◌, true, length};
-ghost use Rattle.pmt_tables.specs.Places.{IsPlaceOf};
+ghost use Rattle.pmt_tables.specs.Slots.{IsSlotOf};
 ghost use Rattle.pmt_tables.specs.Lasts.{last_at};
 ghost use Rattle.pmt_tables.specs.Written.{last_number};
 ghost use Rattle.pmt_explain.specs.Blocks.{AreBlocks};
@@ -94,7 +94,7 @@ fn first_at_place(
     requires blocks { AreBlocks writers.now.blocks }
     requires below { block * 64 < search.now.high }
     requires small { place < 2 ^ 32 }
-    requires place { IsPlaceOf block place writers.now.blocks.places }
+    requires place { IsSlotOf block place writers.now.blocks.places }
     ensures { (i : ℕ) → Knows search.now.trace.now i (range_of search.now) writers.now → GoesOn search.now i (block * 64) (block * 64 + 64) first result }
 {
     if comes_after(writers.first_store(place), bound_of(first)) {

@@ -3,7 +3,7 @@
 ghost use Rattle.std.specs.Prelude.{◌≡◌, ◌≤◌, ◌<◌, ◌^◌, length, IfSome, OnOk};
 ghost use Rattle.pmt_model.specs.Traces.{Recording};
 ghost use Rattle.pmt_model.specs.declared.event.Op.TheVariants.{Store};
-ghost use Rattle.pmt_tables.specs.Places.{IsFound};
+ghost use Rattle.pmt_tables.specs.Slots.{IsFound};
 ghost use Rattle.pmt_explain.specs.Blocks.{AreBlocks, stores_at};
 ghost use Rattle.pmt_explain.specs.Writers.{AreWriters, NotesOp};
 

@@ -4,7 +4,7 @@ ghost use Rattle.std.specs.Prelude.{◌≡◌, [], min, IfOk, OnOk};
 ghost use Rattle.pmt_explain.specs.Numbers.{number_at, number_in, Puts, Reaches};
 
 use pmt_model::OutOfMemory;
-use pmt_tables::LinePlaces;
+use pmt_tables::LineSlots;
 use std::alloc::Global;
 use std::marker::Model;
 
@@ -18,7 +18,7 @@ pub struct Numbered {
 /// Numbers of lines: each has one or none. A line that came lately takes a few steps, another one a look-up.
 #[derive(Drop)]
 pub struct Numbers {
-    lines: LinePlaces,
+    lines: LineSlots,
     // each of these lines with its number
     rows: Vec<Numbered>,
 }
@@ -41,7 +41,7 @@ impl Numbers {
         ensures { result ≡ [] }
     {
         Numbers {
-            lines: LinePlaces::new(alloc),
+            lines: LineSlots::new(alloc),
             rows: Vec::new(alloc),
         }
     }

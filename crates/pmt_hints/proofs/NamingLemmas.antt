@@ -15,7 +15,7 @@ use Rattle.pmt_model.specs.Findings.{last_store_number}
 use Rattle.pmt_laws.proofs.Histories.{act-within}
 use Rattle.pmt_tables.specs.Flags.{is_kept_at}
 use Rattle.pmt_tables.specs.Lasts.{IsLastTo, IsLeastAbove, IsNewest, last_at}
-use Rattle.pmt_tables.specs.Places.{IsPlaceOf}
+use Rattle.pmt_tables.specs.Slots.{IsSlotOf}
 use Rattle.pmt_tables.specs.Written.{last_number}
 use Rattle.pmt_explain.specs.declared.last_writers.LastWriters.{LastWriters}
 use Rattle.pmt_explain.proofs.BlockLemmas.{told-at, told-none}
@@ -94,7 +94,7 @@ bytes-none low last flags = marks-none (IsLastTo low low last) flags (λ i from 
 
 module _ (T : Recording) (w : LastWriters) (all : AreAllWriters T w) (word low high : ℕ) (from : word * 8 ≤ low) (to : high ≤ word * 8 + 8) (few : high ≤ 2 ^ 48) where
   -- no store came to the word
-  pub word-none : ((place : ℕ) → IsPlaceOf (word / 8) place w.blocks.places → ⊥) → (flags : List Bool) → Marks (IsLastBetween T w.place low high) flags flags
+  pub word-none : ((place : ℕ) → IsSlotOf (word / 8) place w.blocks.places → ⊥) → (flags : List Bool) → Marks (IsLastBetween T w.place low high) flags flags
   word-none none flags = marks-none (IsLastBetween T w.place low high) flags never
     where
       never : (i : ℕ) → 1 ≤ i → IsLastBetween T w.place low high i → ⊥
@@ -102,11 +102,11 @@ module _ (T : Recording) (w : LastWriters) (all : AreAllWriters T w) (word low h
           let b = h.0 in
           let own : b / 64 ≡ word / 8 = omega (arith, h.1, h.2, from, to) in
           let tells = all.writers.written.each b (omega (arith, all.low)) (omega (arith, all.high, h.2, few)) in
-          let is : last_number T w.place b ≡ 0 = told-none w.blocks b (last_number T w.place b) tells (λ p at. none p (subst (λ m. IsPlaceOf m p w.blocks.places) own at)) in
+          let is : last_number T w.place b ≡ 0 = told-none w.blocks b (last_number T w.place b) tells (λ p at. none p (subst (λ m. IsSlotOf m p w.blocks.places) own at)) in
           omega (arith, some, is, h.3)
 
   -- its words stand at this place
-  pub word-bytes : (place : ℕ) (words : List (List ℕ)) (old new : List Bool) → IsPlaceOf (word / 8) place w.blocks.places → words ≡ w.blocks.words → Marks (IsLastTo (low - word * 8) (high - word * 8) (last_at words (place * 8 + word % 8))) old new →
+  pub word-bytes : (place : ℕ) (words : List (List ℕ)) (old new : List Bool) → IsSlotOf (word / 8) place w.blocks.places → words ≡ w.blocks.words → Marks (IsLastTo (low - word * 8) (high - word * 8) (last_at words (place * 8 + word % 8))) old new →
       Marks (IsLastBetween T w.place low high) old new
   word-bytes place words old new at is x =
       marks-same (IsLastTo (low - word * 8) (high - word * 8) (last_at w.blocks.words (place * 8 + word % 8))) (IsLastBetween T w.place low high) old new (λ i some. (there i, back i))
@@ -118,7 +118,7 @@ module _ (T : Recording) (w : LastWriters) (all : AreAllWriters T w) (word low h
           let rest : b % 8 ≡ b - word * 8 = omega (arith, more, less, to) in
           let own : b / 64 ≡ word / 8 = omega (arith, more, less, to) in
           let tells = all.writers.written.each b (omega (arith, all.low)) (omega (arith, all.high, less, few)) in
-          let found = told-at w.blocks b (last_number T w.place b) place all.writers.written.are tells (subst (λ m. IsPlaceOf m place w.blocks.places) (sym own) at) in
+          let found = told-at w.blocks b (last_number T w.place b) place all.writers.written.are tells (subst (λ m. IsSlotOf m place w.blocks.places) (sym own) at) in
           ap (λ m. last_at w.blocks.words (place * 8 + m % 8) (b - word * 8)) (sym here) ∙ ap (λ m. last_at w.blocks.words (place * 8 + b / 8 % 8) m) (sym rest) ∙ found
 
       there : (i : ℕ) → IsLastTo (low - word * 8) (high - word * 8) (last_at w.blocks.words (place * 8 + word % 8)) i → IsLastBetween T w.place low high i

@@ -85,18 +85,18 @@ fn tell(live: &mut LiveLines, format: Format, number: u32, event: &Event) -> Res
     let op = event.op;
     match op {
         Op::Store(store) => {
-            let place = live.place_of(line_of(format, store.addr()))?;
-            live.store(place);
+            let slot = live.slot_of(line_of(format, store.addr()))?;
+            live.store(slot);
             Ok(())
         }
         Op::Clwb(addr) | Op::ClflushOpt(addr) => {
-            let place = live.place_of(line_of(format, addr))?;
-            live.flush(thread, place, number)?;
+            let slot = live.slot_of(line_of(format, addr))?;
+            live.flush(thread, slot, number)?;
             Ok(())
         }
         Op::Clflush(addr) => {
-            let place = live.place_of(line_of(format, addr))?;
-            live.clflush(place);
+            let slot = live.slot_of(line_of(format, addr))?;
+            live.clflush(slot);
             Ok(())
         }
         Op::Sfence | Op::Mfence => {

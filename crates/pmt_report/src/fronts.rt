@@ -2,7 +2,7 @@
 ghost use Rattle.std.specs.Prelude.{◌≡◌, ◌++◌, length, IfOk, OnOk};
 ghost use Rattle.std.specs.List.{flat_map};
 ghost use Rattle.pmt_model.specs.Traces.{Recording};
-ghost use Rattle.pmt_tables.specs.Places.{IsPlaceOf};
+ghost use Rattle.pmt_tables.specs.Slots.{IsSlotOf};
 ghost use Rattle.pmt_report.specs.FrontsOf.{AreLinesOf};
 ghost use Rattle.pmt_report.specs.Reports.{fronts_text, line_entry, lines_at};
 
@@ -28,25 +28,25 @@ fn push_lines(text: &mut Vec<u8>, lines: &TraceLines) -> Result<(), OutOfMemory>
     ensures { (T : Recording) → AreLinesOf T lines.now → OnOk result (text.new.items ≡ text.old.items ++ flat_map (line_entry T (length T.events)) (lines_at T (length T.events))) }
 {
     let all = lines.live.lines();
-    for place in 0..all.len() {
-        push_line(text, lines, all[place], place)?;
+    for slot in 0..all.len() {
+        push_line(text, lines, all[slot], slot)?;
     }
     Ok(())
 }
 
-// Adds the entry of the line at this place.
+// Adds the entry of the line at this slot.
 fn push_line(
     text: &mut Vec<u8>,
     lines: &TraceLines,
     line: u64,
-    place: usize,
+    slot: usize,
 ) -> Result<(), OutOfMemory>
     requires lines { (T : Recording) × AreLinesOf T lines.now }
-    requires place { IsPlaceOf line place lines.now.live.rows.places }
+    requires slot { IsSlotOf line slot lines.now.live.rows.slots }
     ensures { (T : Recording) → AreLinesOf T lines.now → OnOk result (text.new.items ≡ text.old.items ++ line_entry T (length T.events) line) }
 {
     let addr = line * lines.format.line_size();
-    let front = lines.live.front(place) as u64;
-    let count = lines.live.count(place) as u64;
+    let front = lines.live.front(slot) as u64;
+    let count = lines.live.count(slot) as u64;
     push_front_entry(text, addr, front, count)
 }

@@ -12,7 +12,7 @@ use Rattle.pmt_safety.specs.Safety.{last_line_store, safe_store_at}
 use Rattle.pmt_rows.specs.Chains.{IsChain, with_place}
 use Rattle.pmt_rows.specs.Linked.{raised}
 use Rattle.pmt_rows.proofs.LinkedLemmas.{raise_links}
-use Rattle.pmt_tables.specs.Places.{IsPlaceOf}
+use Rattle.pmt_tables.specs.Slots.{IsSlotOf}
 use Rattle.pmt_rows.specs.declared.rows.Rows.{Rows}
 use Rattle.pmt_rows.specs.Known.{AreRows, IsKnownWith, row_after}
 use Rattle.pmt_rows.proofs.RowLemmas.{rows-same}
@@ -44,7 +44,7 @@ rises-so a b read e up = sym (below-true a b (omega (arith, e, up)))
 
 -- the line of a flush
 abbrev pub line_in : List ℕ → OpenFlush → ℕ
-line_in lines f = slice_index_or lines f.place 0
+line_in lines f = slice_index_or lines f.slot 0
 
 pub raise-up : (w : Waiting) (safe : ℕ → ℕ) → nat_lt (safe w.line) w.store ≡ true → raise_one w safe ≡ raised w.line w.store safe
 raise-up w safe up = rw up refl
@@ -58,11 +58,11 @@ rows-raised lines last safe flush w r is =
     (λ l. ap (λ s. record { last_store = last l; safe = s; last_flush = flush l }) (raise-max w safe l)) is
 
 module _ (T : Recording) (lines : List ℕ) (n : ℕ) (safe : ℕ → ℕ) (rows : Rows) (entries : List ℕ) (f : OpenFlush) (at : IsAtFence T lines n safe rows entries) (able : IsRaisable T lines n f) where
-  pub placed : IsPlaceOf (line_in lines f) f.place lines
-  placed = slice_get-get_or lines f.place 0 able.within
+  pub placed : IsSlotOf (line_in lines f) f.slot lines
+  placed = slice_get-get_or lines f.slot 0 able.within
 
-  -- there is a row at its place
-  pub has-row : f.place < length rows.rows.items
+  -- there is a row at its slot
+  pub has-row : f.slot < length rows.rows.items
   has-row = let e = at.rows.rows in omega (arith, able.within, ap length e, length-map lines (row_after safe (history T n)))
 
   -- the chain that the walk goes over
@@ -113,7 +113,7 @@ drop-next [] k x within read = absurd (omega arith)
 drop-next (y ∷ xs) zero x within read = ap (λ z. z ∷ xs) (sym read)
 drop-next (y ∷ xs) (suc k) x within read = drop-next xs k x (omega arith) read
 
--- the flushes from the one before place i on
+-- the flushes from the one before slot i on
 pub from-before : (flushes : List OpenFlush) (i : ℕ) (x : OpenFlush) → 0 < i → i ≤ length flushes → x ≡ get_or flushes (i - 1) x → drop (i - 1) flushes ≡ x ∷ drop i flushes
 from-before flushes i x some within read = let e : suc (i - 1) ≡ i = omega arith in drop-next flushes (i - 1) x (omega arith) read ∙ ap (λ k. x ∷ drop k flushes) e
 
@@ -137,7 +137,7 @@ marks-other first kept w ws safe low marks =
     let here : raisers (w ∷ ws) safe ≡ raisers ws safe = ap (λ b. if b then w.number ∷ raisers ws safe else raisers ws safe) (sym low) in
     subst (λ ks. MarksThese first ks kept) (sym here) marks
 
--- the flushes from place i on have been decided
+-- the flushes from slot i on have been decided
 pub record IsDeciding (T : Recording) (lines : List ℕ) (n : ℕ) (safe : ℕ → ℕ) (r : Rows) (xs : List ℕ) (first kept : List Bool) (flushes : List OpenFlush) (i : ℕ) (rises : Bool) : Type 0 where
   pub at : IsAtFence T lines n (raise_all (waits_all lines (drop i flushes)) safe) r xs
   pub tells : rises ≡ some_raises (waits_all lines (drop i flushes)) safe

@@ -2,7 +2,7 @@ pub mod ChainLemmas
 pub mod LinkedLemmas
 pub mod ThreadLemmas
 pub mod FlushedLemmas
-mod PlaceLemmas
+mod SlotLemmas
 pub mod RowLemmas
 pub mod WaitingLemmas
 pub mod OpenLemmas

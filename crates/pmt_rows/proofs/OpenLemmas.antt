@@ -35,18 +35,18 @@ list-past (x ∷ xs) zero past = absurd (omega arith)
 list-past (x ∷ xs) (suc t) past = list-past xs t (omega arith)
 
 -- one line more changes no flush
-pub waits-more : (lines more : List ℕ) (flushes : List OpenFlush) → All (λ f. f.place < length lines) flushes → map (waits (lines ++ more)) flushes ≡ map (waits lines) flushes
+pub waits-more : (lines more : List ℕ) (flushes : List OpenFlush) → All (λ f. f.slot < length lines) flushes → map (waits (lines ++ more)) flushes ≡ map (waits lines) flushes
 waits-more lines more [] within = refl
 waits-more lines more (f ∷ flushes) within =
-    let here : get_or (lines ++ more) f.place 0 ≡ get_or lines f.place 0 = get_or_append_left lines more 0 f.place (within 0 f (omega arith)) in
+    let here : get_or (lines ++ more) f.slot 0 ≡ get_or lines f.slot 0 = get_or_append_left lines more 0 f.slot (within 0 f (omega arith)) in
     let rest = waits-more lines more flushes (λ k d h. within (suc k) d (omega arith)) in
     rw (here, rest) refl
 
-pub within-more : (lines more : List ℕ) (flushes : List OpenFlush) → All (λ f. f.place < length lines) flushes → All (λ f. f.place < length (lines ++ more)) flushes
+pub within-more : (lines more : List ℕ) (flushes : List OpenFlush) → All (λ f. f.slot < length lines) flushes → All (λ f. f.slot < length (lines ++ more)) flushes
 within-more lines more flushes within = λ k d h. omega (arith, within k d h, length-append lines more)
 
 -- the lists of open flushes after a flush
-pub lists-flush : (last : ℕ → List Act → ℕ) (lines : List ℕ) (t : ℕ) (l : ℕ) (h : List Act) (old new : List (List OpenFlush)) (f : OpenFlush) → get_or lines f.place 0 ≡ l → f.number ≡ suc (length h) → f.store ≡ last l h →
+pub lists-flush : (last : ℕ → List Act → ℕ) (lines : List ℕ) (t : ℕ) (l : ℕ) (h : List Act) (old new : List (List OpenFlush)) (f : OpenFlush) → get_or lines f.slot 0 ≡ l → f.number ≡ suc (length h) → f.store ≡ last l h →
     list_at t new ≡ list_at t old ++ f ∷ [] → ((u : ℕ) → u ≢ t → list_at u new ≡ list_at u old) → (u : ℕ) → map (waits lines) (list_at u old) ≡ waiting_by last u h →
     map (waits lines) (list_at u new) ≡ waiting_by last u (Flushes t l ∷ h)
 lists-flush last lines t l h old new f line number stores own others u is = go (cases_eq t u)
@@ -139,17 +139,17 @@ pub waits-on : (last : ℕ → List Act → ℕ) → WaitsOn last
 waits-on last = record {
   none = λ lines. record { each = λ t. refl; within = λ t k d h. absurd (omega arith) };
   line = λ l lines h lists is. line-more last l lines h lists (has_line l lines) is;
-  flush = λ lines t l h f old new place line number store own others is. record {
+  flush = λ lines t l h f old new slot line number store own others is. record {
     each = λ u. lists-flush last lines t l h old new f line number store own others u (is.each u);
-    within = λ u. each-flush (λ (g : OpenFlush). g.place < length lines) t old new f place own others u (is.within u);
+    within = λ u. each-flush (λ (g : OpenFlush). g.slot < length lines) t old new f slot own others u (is.within u);
   };
   back = λ lines t l h old new lacks is. record {
     each = λ u. lists-back last lines t l h old new lacks u (is.each u);
-    within = λ u. each-back (λ (g : OpenFlush). g.place < length lines) t old new lacks u (is.within u);
+    within = λ u. each-back (λ (g : OpenFlush). g.slot < length lines) t old new lacks u (is.within u);
   };
   fence = λ lines t h old new own others is. record {
     each = λ u. lists-fence last lines t h old new own others u (is.each u);
-    within = λ u. each-fence (λ (g : OpenFlush). g.place < length lines) t old new own others u (is.within u);
+    within = λ u. each-fence (λ (g : OpenFlush). g.slot < length lines) t old new own others u (is.within u);
   };
   others = other-act last;
 }

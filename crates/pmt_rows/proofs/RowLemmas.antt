@@ -11,7 +11,7 @@ use Rattle.pmt_model.specs.Traces.{has_line, with_line}
 use Rattle.pmt_model.specs.Findings.{last_flush}
 use Rattle.pmt_safety.specs.Safety.{last_line_store, safe_store}
 use Rattle.pmt_rows.specs.Linked.{raised}
-use Rattle.pmt_tables.specs.Places.{IsPlaceOf, insert_line}
+use Rattle.pmt_tables.specs.Slots.{IsSlotOf, insert_line}
 use Rattle.pmt_tables.proofs.ListLemmas.{among, map-same, map-set_one, list_any-has_line, has_line-less}
 use Rattle.pmt_rows.specs.declared.rows.Row.{Row}
 use Rattle.pmt_rows.specs.declared.rows.Rows.{Rows}
@@ -55,39 +55,39 @@ cleared-known lines h l number r e is =
 
 -- ---- Rows in general
 
-line-has : (l p : ℕ) (lines : List ℕ) → IsPlaceOf l p lines → has_line l lines ≡ true
+line-has : (l p : ℕ) (lines : List ℕ) → IsSlotOf l p lines → has_line l lines ≡ true
 line-has l p lines at = sym (list_any-has_line l lines) ∙ among lines l p at
 
 module _ (lines : List ℕ) (last safe flush : ℕ → ℕ) (r : Rows) (is : AreRows lines last safe flush r) where
-  -- a call that leaves places and rows as they are
-  pub known-same : (new : Rows) → new.places ≡ r.places → new.rows.items ≡ r.rows.items → AreRows lines last safe flush new
-  known-same new places rows = record { placed = places ∙ is.placed; once = is.once; rows = rows ∙ is.rows; others = is.others }
+  -- a call that leaves slots and rows as they are
+  pub known-same : (new : Rows) → new.slots ≡ r.slots → new.rows.items ≡ r.rows.items → AreRows lines last safe flush new
+  known-same new slots rows = record { placed = slots ∙ is.placed; once = is.once; rows = rows ∙ is.rows; others = is.others }
 
-  -- ---- A place for a line
+  -- ---- A slot for a line
 
-  -- the line at a place is among them
-  pub known-there : (l p : ℕ) (new : Rows) → IsPlaceOf l p r.places → new.places ≡ r.places → new.rows.items ≡ r.rows.items → AreRows (with_line l lines) last safe flush new
-  known-there l p new at places rows =
+  -- the line at a slot is among them
+  pub known-there : (l p : ℕ) (new : Rows) → IsSlotOf l p r.slots → new.slots ≡ r.slots → new.rows.items ≡ r.rows.items → AreRows (with_line l lines) last safe flush new
+  known-there l p new at slots rows =
       let has : has_line l lines ≡ true = line-has l p lines (ap (λ ls. slice_get ls p) (sym is.placed) ∙ at) in
-      rw has (known-same new places rows)
+      rw has (known-same new slots rows)
 
-  pub known-old : (l : ℕ) (new : Rows) → false ≡ not (list_any (nat_eq l) r.places) → new.places ≡ insert_line r.places l → new.rows.items ≡ r.rows.items → AreRows (with_line l lines) last safe flush new
+  pub known-old : (l : ℕ) (new : Rows) → false ≡ not (list_any (nat_eq l) r.slots) → new.slots ≡ insert_line r.slots l → new.rows.items ≡ r.rows.items → AreRows (with_line l lines) last safe flush new
   known-old l new known inserted rows =
-      let had : list_any (nat_eq l) r.places ≡ true = not-false (list_any (nat_eq l) r.places) known in
+      let had : list_any (nat_eq l) r.slots ≡ true = not-false (list_any (nat_eq l) r.slots) known in
       let has : has_line l lines ≡ true = sym (list_any-has_line l lines) ∙ ap (list_any (nat_eq l)) (sym is.placed) ∙ had in
-      let same : new.places ≡ r.places = inserted ∙ rw had refl in
+      let same : new.slots ≡ r.slots = inserted ∙ rw had refl in
       rw has (known-same new same rows)
     where
       not-false : (b : Bool) → false ≡ not b → b ≡ true
       not-false true e = refl
       not-false false e = absurd (cc)
 
-  pub known-new : (l : ℕ) (new : Rows) → true ≡ not (list_any (nat_eq l) r.places) → new.places ≡ insert_line r.places l → IsDistinct nat_eq new.places → new.rows.items ≡ r.rows.items ++ empty_row ∷ [] →
+  pub known-new : (l : ℕ) (new : Rows) → true ≡ not (list_any (nat_eq l) r.slots) → new.slots ≡ insert_line r.slots l → IsDistinct nat_eq new.slots → new.rows.items ≡ r.rows.items ++ empty_row ∷ [] →
       AreRows (with_line l lines) last safe flush new
   known-new l new fresh inserted unique rows =
-      let absent : list_any (nat_eq l) r.places ≡ false = not-true (list_any (nat_eq l) r.places) fresh in
+      let absent : list_any (nat_eq l) r.slots ≡ false = not-true (list_any (nat_eq l) r.slots) fresh in
       let hasnt : has_line l lines ≡ false = sym (list_any-has_line l lines) ∙ ap (list_any (nat_eq l)) (sym is.placed) ∙ absent in
-      let same : new.places ≡ lines ++ l ∷ [] = inserted ∙ rw absent (ap (λ ks. ks ++ l ∷ []) is.placed) in
+      let same : new.slots ≡ lines ++ l ∷ [] = inserted ∙ rw absent (ap (λ ks. ks ++ l ∷ []) is.placed) in
       let row : empty_row ≡ row_by last safe flush l = sym (is.others l hasnt) in
       rw hasnt
       (record {
@@ -101,14 +101,14 @@ module _ (lines : List ℕ) (last safe flush : ℕ → ℕ) (r : Rows) (is : Are
       not-true true e = absurd (cc)
       not-true false e = refl
 
-  -- a line's place is that of a row
-  pub has-place : (l p : ℕ) → IsPlaceOf l p r.places → p < length r.rows.items
-  has-place l p at = omega (arith, slice_get_within r.places p l at, ap length is.placed, ap length is.rows, length-map lines (row_by last safe flush))
+  -- a line's slot is that of a row
+  pub has-slot : (l p : ℕ) → IsSlotOf l p r.slots → p < length r.rows.items
+  has-slot l p at = omega (arith, slice_get_within r.slots p l at, ap length is.placed, ap length is.rows, length-map lines (row_by last safe flush))
 
-  -- ---- A line that has a place
+  -- ---- A line that has a slot
 
-  module _ (l p : ℕ) (at : IsPlaceOf l p lines) where
-    -- the row at the place
+  module _ (l p : ℕ) (at : IsSlotOf l p lines) where
+    -- the row at the slot
     pub row-there : (x : Row) → x ≡ get_or r.rows.items p x → x ≡ row_by last safe flush l
     row-there x read =
         read ∙ ap (λ rows. get_or rows p x) is.rows ∙ get_or-map (row_by last safe flush) lines p 0 x (slice_get_within lines p l at) ∙ ap (row_by last safe flush) (get_or_from_slice_get lines p l 0 at)
@@ -120,44 +120,44 @@ module _ (lines : List ℕ) (last safe flush : ℕ → ℕ) (r : Rows) (is : Are
     other number f k apart = let e = ne_eqb l k (λ same. apart (sym same)) in rw e refl
 
     -- a change of one row
-    changed : (last_now safe_now flush_now : ℕ → ℕ) (row : Row) (new : Rows) → new.places ≡ r.places → new.rows.items ≡ set r.rows.items p row → row ≡ row_by last_now safe_now flush_now l →
+    changed : (last_now safe_now flush_now : ℕ → ℕ) (row : Row) (new : Rows) → new.slots ≡ r.slots → new.rows.items ≡ set r.rows.items p row → row ≡ row_by last_now safe_now flush_now l →
         ((k : ℕ) → k ≢ l → row_by last_now safe_now flush_now k ≡ row_by last safe flush k) → AreRows lines last_now safe_now flush_now new
-    changed last_now safe_now flush_now row new places rows here apart = record {
-      placed = places ∙ is.placed;
+    changed last_now safe_now flush_now row new slots rows here apart = record {
+      placed = slots ∙ is.placed;
       once = is.once;
       rows = rows ∙ ap (λ rs. set rs p row) is.rows ∙ ap (set (map (row_by last safe flush) lines) p) here
           ∙ sym (map-set_one (row_by last safe flush) (row_by last_now safe_now flush_now) lines l p is.once at apart);
       others = λ k none. apart k (λ e. absurd (both_ways (has_line k lines) none (ap (λ j. has_line j lines) e ∙ line-has l p lines at))) ∙ is.others k none;
     }
 
-    pub known-store : (number : ℕ) (x : Row) (new : Rows) → x ≡ get_or r.rows.items p x → new.places ≡ r.places → new.rows.items ≡ set r.rows.items p (row_of number x.safe x.last_flush) →
+    pub known-store : (number : ℕ) (x : Row) (new : Rows) → x ≡ get_or r.rows.items p x → new.slots ≡ r.slots → new.rows.items ≡ set r.rows.items p (row_of number x.safe x.last_flush) →
         AreRows lines (raised l number last) safe flush new
-    known-store number x new read places rows =
+    known-store number x new read slots rows =
         let row = row-there x read in
-        changed (raised l number last) safe flush (row_of number x.safe x.last_flush) new places rows
+        changed (raised l number last) safe flush (row_of number x.safe x.last_flush) new slots rows
         (rw (own number last, ap (λ (y : Row). y.safe) row, ap (λ (y : Row). y.last_flush) row) refl)
         (λ k apart. rw (other number last k apart) refl)
 
-    pub known-flush : (number : ℕ) (x : Row) (new : Rows) → x ≡ get_or r.rows.items p x → new.places ≡ r.places → new.rows.items ≡ set r.rows.items p (row_of x.last_store x.safe number) →
+    pub known-flush : (number : ℕ) (x : Row) (new : Rows) → x ≡ get_or r.rows.items p x → new.slots ≡ r.slots → new.rows.items ≡ set r.rows.items p (row_of x.last_store x.safe number) →
         AreRows lines last safe (raised l number flush) new
-    known-flush number x new read places rows =
+    known-flush number x new read slots rows =
         let row = row-there x read in
-        changed last safe (raised l number flush) (row_of x.last_store x.safe number) new places rows
+        changed last safe (raised l number flush) (row_of x.last_store x.safe number) new slots rows
         (rw (own number flush, ap (λ (y : Row). y.last_store) row, ap (λ (y : Row). y.safe) row) refl)
         (λ k apart. rw (other number flush k apart) refl)
 
-    pub known-clflush : (number : ℕ) (x : Row) (new : Rows) → x ≡ get_or r.rows.items p x → new.places ≡ r.places → new.rows.items ≡ set r.rows.items p (row_of x.last_store x.last_store number) →
+    pub known-clflush : (number : ℕ) (x : Row) (new : Rows) → x ≡ get_or r.rows.items p x → new.slots ≡ r.slots → new.rows.items ≡ set r.rows.items p (row_of x.last_store x.last_store number) →
         AreRows lines last (raised l (last l) safe) (raised l number flush) new
-    known-clflush number x new read places rows =
+    known-clflush number x new read slots rows =
         let row = row-there x read in
-        changed last (raised l (last l) safe) (raised l number flush) (row_of x.last_store x.last_store number) new places rows
+        changed last (raised l (last l) safe) (raised l number flush) (row_of x.last_store x.last_store number) new slots rows
         (rw (own (last l) safe, own number flush, ap (λ (y : Row). y.last_store) row) refl)
         (λ k apart. rw (other (last l) safe k apart, other number flush k apart) refl)
 
-    pub known-raise : (store now : ℕ) (x : Row) (new : Rows) → now ≡ max x.safe store → x ≡ get_or r.rows.items p x → new.places ≡ r.places → new.rows.items ≡ set r.rows.items p (row_of x.last_store now x.last_flush) →
+    pub known-raise : (store now : ℕ) (x : Row) (new : Rows) → now ≡ max x.safe store → x ≡ get_or r.rows.items p x → new.slots ≡ r.slots → new.rows.items ≡ set r.rows.items p (row_of x.last_store now x.last_flush) →
         AreRows lines last (raised l (max (safe l) store) safe) flush new
-    known-raise store now x new greater read places rows =
+    known-raise store now x new greater read slots rows =
         let row = row-there x read in
-        changed last (raised l (max (safe l) store) safe) flush (row_of x.last_store now x.last_flush) new places rows
+        changed last (raised l (max (safe l) store) safe) flush (row_of x.last_store now x.last_flush) new slots rows
         (rw (own (max (safe l) store) safe, greater, ap (λ (y : Row). y.safe) row, ap (λ (y : Row). y.last_store) row, ap (λ (y : Row). y.last_flush) row) refl)
         (λ k apart. rw (other (max (safe l) store) safe k apart) refl)

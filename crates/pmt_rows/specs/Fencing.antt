@@ -18,10 +18,10 @@ pub record IsAtFence (T : Recording) (lines : List ℕ) (n : ℕ) (safe : ℕ �
 
 -- The flush marks a store to its line, or 0, which is safe after the fence.
 pub record IsRaisable (T : Recording) (lines : List ℕ) (n : ℕ) (f : OpenFlush) : Type 0 where
-  pub within : f.place < length lines
-  pub store : (f.store ≡ 0) ⊎ ((w : Written) × IsAct T f.store (Stores (slice_index_or lines f.place 0) w))
+  pub within : f.slot < length lines
+  pub store : (f.store ≡ 0) ⊎ ((w : Written) × IsAct T f.store (Stores (slice_index_or lines f.slot 0) w))
   pub by_now : f.store ≤ n
-  pub later : f.store ≤ safe_store_at T (slice_index_or lines f.place 0) (suc n)
+  pub later : f.store ≤ safe_store_at T (slice_index_or lines f.slot 0) (suc n)
 
 -- Flushes wait for a fence that is the event with this number.
 pub record AreAtFence (T : Recording) (lines : List ℕ) (n number : ℕ) (safe : ℕ → ℕ) (r : Rows) (xs : List ℕ) (flushes : List OpenFlush) : Type 0 where

@@ -16,9 +16,9 @@ row_by last safe flush l = record { last_store = last l; safe = safe l; last_flu
 abbrev pub empty_row : Row
 empty_row = record { last_store = 0; safe = 0; last_flush = 0 }
 
--- These lines have a place, among them all to which something has come, and each has its row.
+-- These lines have a slot, among them all to which something has come, and each has its row.
 pub record AreRows (lines : List ℕ) (last safe flush : ℕ → ℕ) (r : Rows) : Type 0 where
-  pub placed : r.places ≡ lines
+  pub placed : r.slots ≡ lines
   pub once : IsDistinct nat_eq lines
   pub rows : r.rows.items ≡ map (row_by last safe flush) lines
   pub others : (l : ℕ) → has_line l lines ≡ false → row_by last safe flush l ≡ empty_row
@@ -31,7 +31,7 @@ row_after safe h l = row_by (λ k. last_line_store k h) safe (λ k. last_flush k
 abbrev pub IsKnownWith : List ℕ → List Act → (ℕ → ℕ) → Rows → Type 0
 IsKnownWith lines h safe r = AreRows lines (λ l. last_line_store l h) safe (λ l. last_flush l h) r
 
--- The lines with a place are those that were stored or flushed, in order of first appearance, and the rows tell their last safe stores.
+-- The lines with a slot are those that were stored or flushed, in order of first appearance, and the rows tell their last safe stores.
 abbrev pub IsKnown : List Act → Rows → Type 0
 IsKnown h r = IsKnownWith (lines_of h) h (λ l. safe_store l h) r
 

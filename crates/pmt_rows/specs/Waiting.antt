@@ -45,14 +45,14 @@ OpenTells = (t : ℕ) (h : List Act) → (has_open_flush t h ≡ true) ↔ (wait
 abbrev pub list_at : ℕ → List (List OpenFlush) → List OpenFlush
 list_at t lists = slice_index_or lists t []
 
--- The flush, whose line stands at its place among these.
+-- The flush, whose line stands at its slot among these.
 abbrev pub waits : List ℕ → OpenFlush → Waiting
-waits lines f = record { number = f.number; line = slice_index_or lines f.place 0; store = f.store }
+waits lines f = record { number = f.number; line = slice_index_or lines f.slot 0; store = f.store }
 
--- The lists are those of the flushes that wait, each with the place of its line among these lines.
+-- The lists are those of the flushes that wait, each with the slot of its line among these lines.
 pub record AreWaitingBy (last : ℕ → List Act → ℕ) (lines : List ℕ) (h : List Act) (lists : List (List OpenFlush)) : Type 0 where
   pub each : (t : ℕ) → map (waits lines) (list_at t lists) ≡ waiting_by last t h
-  pub within : (t : ℕ) → All (λ f. f.place < length lines) (list_at t lists)
+  pub within : (t : ℕ) → All (λ f. f.slot < length lines) (list_at t lists)
 
 abbrev pub AreWaiting : List ℕ → List Act → List (List OpenFlush) → Type 0
 AreWaiting lines h lists = AreWaitingBy last_line_store lines h lists
@@ -67,7 +67,7 @@ pub record LacksLast (t : ℕ) (old new : List (List OpenFlush)) : Type 0 where
 pub record WaitsOn (last : ℕ → List Act → ℕ) : Type 0 where
   pub none : (lines : List ℕ) → AreWaitingBy last lines [] []
   pub line : (l : ℕ) (lines : List ℕ) (h : List Act) (lists : List (List OpenFlush)) → AreWaitingBy last lines h lists → AreWaitingBy last (with_line l lines) h lists
-  pub flush : (lines : List ℕ) (t l : ℕ) (h : List Act) (f : OpenFlush) (old new : List (List OpenFlush)) → f.place < length lines → slice_index_or lines f.place 0 ≡ l → f.number ≡ suc (length h) → f.store ≡ last l h →
+  pub flush : (lines : List ℕ) (t l : ℕ) (h : List Act) (f : OpenFlush) (old new : List (List OpenFlush)) → f.slot < length lines → slice_index_or lines f.slot 0 ≡ l → f.number ≡ suc (length h) → f.store ≡ last l h →
       list_at t new ≡ list_at t old ++ f ∷ [] → ((u : ℕ) → u ≢ t → list_at u new ≡ list_at u old) → AreWaitingBy last lines h old → AreWaitingBy last lines (Flushes t l ∷ h) new
   pub back : (lines : List ℕ) (t l : ℕ) (h : List Act) (old new : List (List OpenFlush)) → LacksLast t old new → AreWaitingBy last lines (Flushes t l ∷ h) old → AreWaitingBy last lines h new
   pub fence : (lines : List ℕ) (t : ℕ) (h : List Act) (old new : List (List OpenFlush)) → list_at t new ≡ [] → ((u : ℕ) → u ≢ t → list_at u new ≡ list_at u old) → AreWaitingBy last lines h old →

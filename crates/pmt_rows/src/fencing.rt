@@ -39,9 +39,9 @@ pub fn fence(
 fn raise(rows: &mut Rows, links: &mut Links, flush: OpenFlush, number: u32) -> bool
     requires { (T : Recording) × (lines : List ℕ) × (n : ℕ) × (safe : ℕ → ℕ) × IsAtFence T lines n safe rows.old links.old × IsRaisable T lines n flush × (number ≡ suc n) }
     ensures raised { (T : Recording) (lines : List ℕ) (n : ℕ) (safe : ℕ → ℕ) → IsAtFence T lines n safe rows.old links.old → IsRaisable T lines n flush → number ≡ suc n → IsAtFence T lines n (raise_one (waits lines flush) safe) rows.new links.new }
-    ensures tells { (T : Recording) (lines : List ℕ) (n : ℕ) (safe : ℕ → ℕ) → IsAtFence T lines n safe rows.old links.old → IsRaisable T lines n flush → result ≡ nat_lt (safe (slice_index_or lines flush.place 0)) flush.store }
+    ensures tells { (T : Recording) (lines : List ℕ) (n : ℕ) (safe : ℕ → ℕ) → IsAtFence T lines n safe rows.old links.old → IsRaisable T lines n flush → result ≡ nat_lt (safe (slice_index_or lines flush.slot 0)) flush.store }
 {
-    let safe = rows.raise(flush.place as usize, flush.store);
+    let safe = rows.raise(flush.slot as usize, flush.store);
     if flush.store <= safe {
         return false;
     }

@@ -6,11 +6,11 @@ use pmt_model::OutOfMemory;
 use std::alloc::Global;
 use std::marker::Model;
 
-/// A flush (clwb, clflushopt) by its number, with the place of its line and the last store to that so far, or 0.
+/// A flush (clwb, clflushopt) by its number, with the slot of its line and the last store to that so far, or 0.
 #[derive(Clone, Copy)]
 pub struct OpenFlush {
     pub number: u32,
-    pub place: u32,
+    pub slot: u32,
     pub store: u32,
 }
 

@@ -3,11 +3,11 @@ ghost use Rattle.std.specs.Prelude.{◌≡◌, ℕ, ◌<◌, ◌^◌, List, [], 
 ghost use Rattle.std.specs.List.{IsDistinct};
 ghost use Rattle.pmt_model.specs.Traces.{with_line};
 ghost use Rattle.pmt_rows.specs.Linked.{raised};
-ghost use Rattle.pmt_tables.specs.Places.{IsPlaceOf};
+ghost use Rattle.pmt_tables.specs.Slots.{IsSlotOf};
 ghost use Rattle.pmt_rows.specs.Known.{AreRows, row_by};
 
 use pmt_model::OutOfMemory;
-use pmt_tables::LinePlaces;
+use pmt_tables::LineSlots;
 use std::alloc::Global;
 
 /// Of a line the numbers of its last store, of its last store that is safe, and of its last flush or clflush: 0 where there is none.
@@ -24,11 +24,11 @@ const EMPTY: Row = Row {
     last_flush: 0,
 };
 
-/// The lines of a trace under way, each with a place, that of its first appearance, and a row. A line has a place before an act on it is
+/// The lines of a trace under way, each with a slot, that of its first appearance, and a row. A line has a slot before an act on it is
 /// told; an act takes at most one look-up, and none where the line is one of those found last.
 #[derive(Drop)]
 pub struct Rows {
-    places: LinePlaces,
+    slots: LineSlots,
     rows: Vec<Row>,
 }
 
@@ -38,93 +38,93 @@ impl Rows {
         ensures { AreRows [] (λ _. 0) (λ _. 0) (λ _. 0) result }
     {
         Rows {
-            places: LinePlaces::new(alloc),
+            slots: LineSlots::new(alloc),
             rows: Vec::new(alloc),
         }
     }
 
-    /// How many lines have a place.
+    /// How many lines have a slot.
     pub fn len(&self) -> usize
         ensures { result ≡ length self.now.rows.items }
     {
         self.rows.len()
     }
 
-    /// The lines, by their places.
-    pub fn places(&self) -> &LinePlaces
-        ensures { result.now ≡ self.now.places }
+    /// The lines, by their slots.
+    pub fn slots(&self) -> &LineSlots
+        ensures { result.now ≡ self.now.slots }
     {
-        &self.places
+        &self.slots
     }
 
-    /// The place of the line, which it gets if it has none yet, below 2^32.
+    /// The slot of the line, which it gets if it has none yet, below 2^32.
     ///
     /// # Errors
-    /// Where memory was refused, or 4,294,967,295 lines have a place. All that is known stays as it was.
+    /// Where memory was refused, or 4,294,967,295 lines have a slot. All that is known stays as it was.
     #[inline(always)]
-    pub fn place_of(&mut self, line: u64) -> Result<usize, OutOfMemory>
-        ensures here { IfOk result (λ place. IsPlaceOf line place self.new.places) }
-        ensures small { IfOk result (λ place. place < 2 ^ 32) }
+    pub fn slot_of(&mut self, line: u64) -> Result<usize, OutOfMemory>
+        ensures here { IfOk result (λ slot. IsSlotOf line slot self.new.slots) }
+        ensures small { IfOk result (λ slot. slot < 2 ^ 32) }
         ensures known { OnOk result ((lines : List ℕ) (last safe flush : ℕ → ℕ) → AreRows lines last safe flush self.old → AreRows (with_line line lines) last safe flush self.new) }
         ensures kept { OnErr result ((lines : List ℕ) (last safe flush : ℕ → ℕ) → AreRows lines last safe flush self.old → AreRows lines last safe flush self.new) }
     {
-        match self.places.recent(line) {
-            Some(place) => Ok(place),
+        match self.slots.recent(line) {
+            Some(slot) => Ok(slot),
             None => self.look_up(line),
         }
     }
 
     // The same, by a look-up.
     fn look_up(&mut self, line: u64) -> Result<usize, OutOfMemory>
-        ensures here { IfOk result (λ place. IsPlaceOf line place self.new.places) }
-        ensures small { IfOk result (λ place. place < 2 ^ 32) }
+        ensures here { IfOk result (λ slot. IsSlotOf line slot self.new.slots) }
+        ensures small { IfOk result (λ slot. slot < 2 ^ 32) }
         ensures known { OnOk result ((lines : List ℕ) (last safe flush : ℕ → ℕ) → AreRows lines last safe flush self.old → AreRows (with_line line lines) last safe flush self.new) }
         ensures kept { OnErr result ((lines : List ℕ) (last safe flush : ℕ → ℕ) → AreRows lines last safe flush self.old → AreRows lines last safe flush self.new) }
     {
         self.rows.reserve(1)?;
-        let (place, is_new) = self.places.insert(line)?;
+        let (slot, is_new) = self.slots.insert(line)?;
         if is_new {
             self.rows.push_reserved(EMPTY);
         }
-        Ok(place)
+        Ok(slot)
     }
 
-    /// The row of the line at this place.
+    /// The row of the line at this slot.
     #[inline(always)]
-    pub fn row(&self, place: usize) -> Row
-        requires { place < length self.now.rows.items }
-        ensures { (lines : List ℕ) (last safe flush : ℕ → ℕ) (l : ℕ) → IsPlaceOf l place lines → AreRows lines last safe flush self.now → result ≡ row_by last safe flush l }
+    pub fn row(&self, slot: usize) -> Row
+        requires { slot < length self.now.rows.items }
+        ensures { (lines : List ℕ) (last safe flush : ℕ → ℕ) (l : ℕ) → IsSlotOf l slot lines → AreRows lines last safe flush self.now → result ≡ row_by last safe flush l }
     {
-        self.rows[place]
+        self.rows[slot]
     }
 
-    /// A store to the line at this place, the event with this number.
+    /// A store to the line at this slot, the event with this number.
     #[inline(always)]
-    pub fn store(&mut self, place: usize, number: u32)
-        requires { place < length self.old.rows.items }
-        ensures { (lines : List ℕ) (last safe flush : ℕ → ℕ) (l : ℕ) → IsPlaceOf l place lines → AreRows lines last safe flush self.old → AreRows lines (raised l number last) safe flush self.new }
+    pub fn store(&mut self, slot: usize, number: u32)
+        requires { slot < length self.old.rows.items }
+        ensures { (lines : List ℕ) (last safe flush : ℕ → ℕ) (l : ℕ) → IsSlotOf l slot lines → AreRows lines last safe flush self.old → AreRows lines (raised l number last) safe flush self.new }
     {
-        let row = &mut self.rows[place];
+        let row = &mut self.rows[slot];
         row.last_store = number;
     }
 
-    /// A flush (clwb, clflushopt) of the line at this place, the event with this number.
+    /// A flush (clwb, clflushopt) of the line at this slot, the event with this number.
     #[inline(always)]
-    pub fn flush(&mut self, place: usize, number: u32)
-        requires { place < length self.old.rows.items }
-        ensures { (lines : List ℕ) (last safe flush : ℕ → ℕ) (l : ℕ) → IsPlaceOf l place lines → AreRows lines last safe flush self.old → AreRows lines last safe (raised l number flush) self.new }
+    pub fn flush(&mut self, slot: usize, number: u32)
+        requires { slot < length self.old.rows.items }
+        ensures { (lines : List ℕ) (last safe flush : ℕ → ℕ) (l : ℕ) → IsSlotOf l slot lines → AreRows lines last safe flush self.old → AreRows lines last safe (raised l number flush) self.new }
     {
-        let row = &mut self.rows[place];
+        let row = &mut self.rows[slot];
         row.last_flush = number;
     }
 
-    /// A clflush of the line at this place, the event with this number: its last store is safe then.
+    /// A clflush of the line at this slot, the event with this number: its last store is safe then.
     #[inline(always)]
-    pub fn clflush(&mut self, place: usize, number: u32)
-        requires { place < length self.old.rows.items }
-        ensures { (lines : List ℕ) (last safe flush : ℕ → ℕ) (l : ℕ) → IsPlaceOf l place lines → AreRows lines last safe flush self.old → AreRows lines last (raised l (last l) safe) (raised l number flush) self.new }
+    pub fn clflush(&mut self, slot: usize, number: u32)
+        requires { slot < length self.old.rows.items }
+        ensures { (lines : List ℕ) (last safe flush : ℕ → ℕ) (l : ℕ) → IsSlotOf l slot lines → AreRows lines last safe flush self.old → AreRows lines last (raised l (last l) safe) (raised l number flush) self.new }
     {
-        let row = &mut self.rows[place];
+        let row = &mut self.rows[slot];
         *row = Row {
             last_store: row.last_store,
             safe: row.last_store,
@@ -132,14 +132,14 @@ impl Rows {
         };
     }
 
-    /// The last safe store of the line at this place is this one, where that is later: which it was.
+    /// The last safe store of the line at this slot is this one, where that is later: which it was.
     #[inline(always)]
-    pub fn raise(&mut self, place: usize, store: u32) -> u32
-        requires { place < length self.old.rows.items }
-        ensures raised { (lines : List ℕ) (last safe flush : ℕ → ℕ) (l : ℕ) → IsPlaceOf l place lines → AreRows lines last safe flush self.old → AreRows lines last (raised l (max (safe l) store) safe) flush self.new }
-        ensures was { (lines : List ℕ) (last safe flush : ℕ → ℕ) (l : ℕ) → IsPlaceOf l place lines → AreRows lines last safe flush self.old → result ≡ safe l }
+    pub fn raise(&mut self, slot: usize, store: u32) -> u32
+        requires { slot < length self.old.rows.items }
+        ensures raised { (lines : List ℕ) (last safe flush : ℕ → ℕ) (l : ℕ) → IsSlotOf l slot lines → AreRows lines last safe flush self.old → AreRows lines last (raised l (max (safe l) store) safe) flush self.new }
+        ensures was { (lines : List ℕ) (last safe flush : ℕ → ℕ) (l : ℕ) → IsSlotOf l slot lines → AreRows lines last safe flush self.old → result ≡ safe l }
     {
-        let row = &mut self.rows[place];
+        let row = &mut self.rows[slot];
         let safe = row.safe;
         row.safe = safe.max(store);
         safe
@@ -154,18 +154,18 @@ impl Rows {
     {
         let alloc = *self.rows.allocator();
         Ok(Rows {
-            places: copied(&self.places, alloc)?,
+            slots: copied(&self.slots, alloc)?,
             rows: self.rows.as_slice().to_vec(alloc)?,
         })
     }
 }
 
-// The same lines, each at the same place.
-fn copied(places: &LinePlaces, alloc: Global) -> Result<LinePlaces, OutOfMemory>
-    ensures { IfOk result (λ copy. IsDistinct nat_eq places.now → copy ≡ places.now) }
+// The same lines, each at the same slot.
+fn copied(slots: &LineSlots, alloc: Global) -> Result<LineSlots, OutOfMemory>
+    ensures { IfOk result (λ copy. IsDistinct nat_eq slots.now → copy ≡ slots.now) }
 {
-    let mut copy = LinePlaces::new(alloc);
-    for line in places.lines() {
+    let mut copy = LineSlots::new(alloc);
+    for line in slots.lines() {
         copy.insert(*line)?;
     }
     Ok(copy)

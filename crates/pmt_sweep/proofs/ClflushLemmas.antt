@@ -15,7 +15,7 @@ use Rattle.pmt_safety.proofs.KeptLemmas.{kept_clflush_by_stores}
 use Rattle.pmt_rows.specs.Chains.{IsChain, with_place}
 use Rattle.pmt_rows.specs.Linked.{AreLinked, AreLinkedAt, raised}
 use Rattle.pmt_rows.proofs.LinkedLemmas.{each_linked, raise_links}
-use Rattle.pmt_tables.specs.Places.{IsPlaceOf}
+use Rattle.pmt_tables.specs.Slots.{IsSlotOf}
 use Rattle.pmt_rows.specs.declared.rows.Rows.{Rows}
 use Rattle.pmt_rows.specs.Known.{AreRows, IsKnownWith}
 use Rattle.pmt_rows.proofs.RowLemmas.{cleared-known}
@@ -53,7 +53,7 @@ below-false a b h = go (nat_lt a b) refl
     go true e = let lt : a < b = ltb-true a b e in absurd (omega (arith, h, lt))
     go false e = refl
 
-module _ (T : Recording) (n l place : ℕ) (lines : List ℕ) (k : Known) (is : IsKnownAmong T n lines k) (next : IsAct T (suc n) (Clflushes l)) (at : IsPlaceOf l place lines) where
+module _ (T : Recording) (n l slot : ℕ) (lines : List ℕ) (k : Known) (is : IsKnownAmong T n lines k) (next : IsAct T (suc n) (Clflushes l)) (at : IsSlotOf l slot lines) where
   marked : (last_line_store_at T l n ≡ 0) ⊎ ((w : Written) × IsAct T (last_line_store_at T l n) (Stores l w))
   marked = elim (last-is_store T l n) [
     | inl none ↦ inl none

@@ -9,8 +9,8 @@ use Rattle.pmt_model.specs.Values.{Written}
 use Rattle.pmt_model.specs.Machine.{Act, Stores, Flushes, Clflushes, Fences, Asserts}
 use Rattle.pmt_model.specs.Findings.{last_flush}
 use Rattle.pmt_safety.specs.Safety.{last_line_store, has_flushed}
-use Rattle.pmt_tables.specs.Places.{IsPlaceOf}
-use Rattle.pmt_tables.proofs.ListLemmas.{one-place, push-cases}
+use Rattle.pmt_tables.specs.Slots.{IsSlotOf}
+use Rattle.pmt_tables.proofs.ListLemmas.{one-slot, push-cases}
 use Rattle.pmt_sweep.specs.declared.first_flush.FirstFlush.{FirstFlush}
 use Rattle.pmt_sweep.specs.declared.flushed.SinceStore.{SinceStore}
 use Rattle.pmt_sweep.specs.Since.{none_since}
@@ -50,7 +50,7 @@ none-tells : (last t : ℕ) (s : SinceStore) → tells_first last none_first s t
 none-tells last t s = refl
 
 pub flushed-none : AreFlushedOf [] [] [] []
-flushed-none = record { few = omega arith; by_now = λ k d within. absurd (omega (arith, within)); each = λ l place t at small. refl }
+flushed-none = record { few = omega arith; by_now = λ k d within. absurd (omega (arith, within)); each = λ l slot t at small. refl }
 
 -- one more line, which nobody has flushed
 pub flushed-new : (lines : List ℕ) (l : ℕ) (h : List Act) (flushed : List FirstFlush) (others : List SinceStore) → last_flush l h ≡ 0 → AreFlushedOf lines h flushed others → AreFlushedOf (lines ++ l ∷ []) h flushed others
@@ -65,7 +65,7 @@ flushed-new lines l h flushed others none is = record {
   ];
 }
 
--- what is known of a place came with an earlier event
+-- what is known of a slot came with an earlier event
 since-by : (h : List Act) (flushed : List FirstFlush) (p : ℕ) → All (λ (s : FirstFlush). s.store ≤ length h) flushed → (get_or flushed p none_first).store ≤ length h
 since-by h flushed p by_now = elim (cases_lt p (length flushed)) [
   | inl within ↦ by_now p none_first within
@@ -116,32 +116,32 @@ and-on : (b : Bool) → (b && true) ≡ b
 and-on true = refl
 and-on false = refl
 
-pub flushed-flush : (lines : List ℕ) (t l place store : ℕ) (h : List Act) (old : List FirstFlush) (others : List SinceStore) (new : List FirstFlush) (then_others : List SinceStore) → IsDistinct nat_eq lines → IsPlaceOf l place lines → store ≡ last_line_store l h → HasFirst place store t old others new then_others → AreFlushedOf lines h old others →
+pub flushed-flush : (lines : List ℕ) (t l slot store : ℕ) (h : List Act) (old : List FirstFlush) (others : List SinceStore) (new : List FirstFlush) (then_others : List SinceStore) → IsDistinct nat_eq lines → IsSlotOf l slot lines → store ≡ last_line_store l h → HasFirst slot store t old others new then_others → AreFlushedOf lines h old others →
     AreFlushedOf lines (Flushes t l ∷ h) new then_others
-flushed-flush lines t l place store h old others new then_others once at e has is = record {
-  few = omega (arith, has.many, is.few, slice_get_within lines place l at);
-  by_now = λ p d within. let le = store-at p (cases_eq p place) in omega (arith, le, ap (λ (s : FirstFlush). s.store) (get_or_default new p d none_first within));
-  each = λ k p u there small. each k p u there small (cases_eq p place);
+flushed-flush lines t l slot store h old others new then_others once at e has is = record {
+  few = omega (arith, has.many, is.few, slice_get_within lines slot l at);
+  by_now = λ p d within. let le = store-at p (cases_eq p slot) in omega (arith, le, ap (λ (s : FirstFlush). s.store) (get_or_default new p d none_first within));
+  each = λ k p u there small. each k p u there small (cases_eq p slot);
 }
   where
-    store-at : (p : ℕ) → (p ≡ place) ⊎ (p ≢ place) → (get_or new p none_first).store ≤ length h
+    store-at : (p : ℕ) → (p ≡ slot) ⊎ (p ≢ slot) → (get_or new p none_first).store ≤ length h
     store-at p (inl same) =
         let here : (get_or new p none_first).store ≡ store = ap (λ q. (get_or new q none_first).store) same ∙ has.since in
         let le = last-by l h in
         omega (arith, here, e, le)
     store-at p (inr other) = let same = (has.kept p other).store in let by = since-by h old p is.by_now in omega (arith, same, by)
 
-    own : (u : ℕ) → u < 256 → tells_at (last_line_store l h) new then_others place u ≡ (((t == u) && (l == l)) || has_flushed u l h)
+    own : (u : ℕ) → u < 256 → tells_at (last_line_store l h) new then_others slot u ≡ (((t == u) && (l == l)) || has_flushed u l h)
     own u small =
         let on : ((t == u) && (l == l)) ≡ (t == u) = ap (λ b. (t == u) && b) (eq-eqb l l refl) ∙ and-on (t == u) in
-        ap (λ m. tells_at m new then_others place u) (sym e) ∙ has.own u small ∙ ap (λ m. (t == u) || tells_at m old others place u) e ∙ ap (λ b. (t == u) || b) (is.each l place u at small)
+        ap (λ m. tells_at m new then_others slot u) (sym e) ∙ has.own u small ∙ ap (λ m. (t == u) || tells_at m old others slot u) e ∙ ap (λ b. (t == u) || b) (is.each l slot u at small)
         ∙ ap (λ b. b || has_flushed u l h) (sym on)
 
-    each : (k p u : ℕ) → IsPlaceOf k p lines → u < 256 → (p ≡ place) ⊎ (p ≢ place) → tells_at (last_line_store k h) new then_others p u ≡ (((t == u) && (l == k)) || has_flushed u k h)
+    each : (k p u : ℕ) → IsSlotOf k p lines → u < 256 → (p ≡ slot) ⊎ (p ≢ slot) → tells_at (last_line_store k h) new then_others p u ≡ (((t == u) && (l == k)) || has_flushed u k h)
     each k p u there small (inl same) =
         let line : k ≡ l = same_Some k l (sym there ∙ ap (slice_get lines) same ∙ at) in
         rw (same, line) (own u small)
     each k p u there small (inr other) =
-        let apart : (l == k) ≡ false = ne_eqb l k (λ same. other (one-place lines k p place once there (at ∙ ap Some same))) in
+        let apart : (l == k) ≡ false = ne_eqb l k (λ same. other (one-slot lines k p slot once there (at ∙ ap Some same))) in
         let off : ((t == u) && (l == k)) ≡ false = ap (λ b. (t == u) && b) apart ∙ and-off (t == u) in
         (has.kept p other).tells (last_line_store k h) u small ∙ is.each k p u there small ∙ ap (λ b. b || has_flushed u k h) (sym off)

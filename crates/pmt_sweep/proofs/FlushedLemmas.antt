@@ -1,4 +1,4 @@
--- The threads that have flushed a line, as a set with the store after which they did: a place more.
+-- The threads that have flushed a line, as a set with the store after which they did: a slot more.
 use Rattle.std.proofs.Common.{◌≡◌, ℕ, suc, ◌⊎◌, zero, ◌+◌, ◌-◌, max, ◌<◌, ◌≤◌, inl, inr, ◌==◌, Bool, true, false, List, [], ◌∷◌, ◌++◌, length, get_or, refl, sym, ap, ◌∙◌, arith}
 use Rattle.std.specs.Prelude.{◌&&◌}
 use Rattle.std.proofs.lemmas.Bool.{cases_order}
@@ -20,23 +20,23 @@ none-tells last t = go (0 == last)
     go true = refl
     go false = refl
 
--- ---- A place more
+-- ---- A slot more
 
--- lines have been given a place, up to this one
-pub record IsReaching (place : ℕ) (old new : List SinceStore) : Type 0 where
-  pub many : (new ≡ old) ⊎ ((length old ≤ length new) × (length new ≤ suc place))
+-- lines have been given a slot, up to this one
+pub record IsReaching (slot : ℕ) (old new : List SinceStore) : Type 0 where
+  pub many : (new ≡ old) ⊎ ((length old ≤ length new) × (length new ≤ suc slot))
   pub alike : (p : ℕ) → IsAlike old new p
 
-pub reaching-none : (place : ℕ) (old : List SinceStore) → IsReaching place old old
-reaching-none place old = record { many = inl refl; alike = λ p. record { store = refl; tells = λ last t small. refl } }
+pub reaching-none : (slot : ℕ) (old : List SinceStore) → IsReaching slot old old
+reaching-none slot old = record { many = inl refl; alike = λ p. record { store = refl; tells = λ last t small. refl } }
 
 get_or_left : (xs ys : List SinceStore) (p : ℕ) → p < length xs → get_or (xs ++ ys) p none_since ≡ get_or xs p none_since
 get_or_left [] ys p within = absurd (omega (arith, within))
 get_or_left (x ∷ xs) ys zero within = refl
 get_or_left (x ∷ xs) ys (suc p) within = get_or_left xs ys p (omega (arith, within))
 
-pub reaching-more : (place : ℕ) (old new : List SinceStore) (s : SinceStore) → s.store ≡ 0 → ((t : ℕ) → t < 256 → has_thread s.threads t ≡ false) → length new ≤ place → IsReaching place old new → IsReaching place old (new ++ s ∷ [])
-reaching-more place old new s zero_store empty within is = record {
+pub reaching-more : (slot : ℕ) (old new : List SinceStore) (s : SinceStore) → s.store ≡ 0 → ((t : ℕ) → t < 256 → has_thread s.threads t ≡ false) → length new ≤ slot → IsReaching slot old new → IsReaching slot old (new ++ s ∷ [])
+reaching-more slot old new s zero_store empty within is = record {
   many = inr (elim is.many [
     | inl same ↦ (omega (arith, ap length same, length-append new (s ∷ [])), omega (arith, within, length-append new (s ∷ [])))
     | inr more ↦ (omega (arith, more.0, length-append new (s ∷ [])), omega (arith, within, length-append new (s ∷ [])))
@@ -72,8 +72,8 @@ reaching-more place old new s zero_store empty within is = record {
           tells = λ m t small. ap (λ x. tells_flush m x t) read ∙ old_is.tells m t small;
         }
 
-pub reached : (place : ℕ) (old new : List SinceStore) → place < length new → IsReaching place old new → length new ≡ max (length old) (place + 1)
-reached place old new there is = elim is.many [
+pub reached : (slot : ℕ) (old new : List SinceStore) → slot < length new → IsReaching slot old new → length new ≡ max (length old) (slot + 1)
+reached slot old new there is = elim is.many [
   | inl same ↦ omega (arith, ap length same, there)
   | inr more ↦ omega (arith, more.0, more.1, there)
 ]

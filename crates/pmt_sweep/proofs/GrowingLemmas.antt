@@ -157,7 +157,7 @@ module _ (S : Recording) (more : List Event) where
   words-more : (many : ℕ) (lines : List ℕ) (words : List (List ℕ)) → AreWordsOf S size many lines words → AreWordsOf grown size many lines words
   words-more many lines words are = record {
     in_all = are.in_all;
-    each = λ l place i at small k eight. are.each l place i at small k eight ∙ ap (λ h. unwrap_or (last_store_number (word_address S.format.line_size l i + k) h) 0) here;
+    each = λ l slot i at small k eight. are.each l slot i at small k eight ∙ ap (λ h. unwrap_or (last_store_number (word_address S.format.line_size l i + k) h) 0) here;
   }
 
   -- the lines

@@ -14,7 +14,7 @@ use Rattle.pmt_safety.specs.Safety.{has_flushed, last_line_store, last_line_stor
 use Rattle.pmt_safety.proofs.RedundantLemmas.{redundant_flush_by_stores}
 use Rattle.pmt_rows.specs.Linked.{AreLinked, AreLinkedAt, raised}
 use Rattle.pmt_rows.proofs.LinkedLemmas.{each_linked}
-use Rattle.pmt_tables.specs.Places.{IsPlaceOf}
+use Rattle.pmt_tables.specs.Slots.{IsSlotOf}
 use Rattle.pmt_tables.specs.declared.words.Overwrite.{Overwrite}
 use Rattle.pmt_tables.specs.Lasts.{last_at, AddsOverwritten, IsLastTo}
 use Rattle.pmt_tables.specs.Written.{IsWordAt, WritesIn}
@@ -36,7 +36,7 @@ use Rattle.pmt_sweep.specs.declared.line_words.WordBytes.{WordBytes}
 use Rattle.pmt_sweep.proofs.WordsLemmas.{AreAdded, words-new, words-other}
 use Rattle.pmt_sweep.proofs.FirstLemmas.{flushed-new, flushed-store, flushed-flush}
 
--- ---- A place for a line
+-- ---- A slot for a line
 
 -- of how many lines rows are known
 pub rows-many : (lines : List ℕ) (h : List Act) (safe : ℕ → ℕ) (r : Rows) → IsKnownWith lines h safe r → length r.rows.items ≡ length lines
@@ -58,7 +58,7 @@ module _ (T : Recording) (n l : ℕ) (lines : List ℕ) (k : Known) (rows : Rows
       go true e many = refl
       go false e many = let old = rows-many lines (history T n) (λ m. safe_store_at T m n) k.rows is.rows in absurd (omega (arith, many, old, few, length-append lines (l ∷ [])))
 
-  -- nothing has come to a line without a place
+  -- nothing has come to a line without a slot
   no-store : has_line l lines ≡ false → last_line_store_at T l n ≡ 0
   no-store new = ap (λ (r : Row). r.last_store) (is.rows.others l new)
 
@@ -85,7 +85,7 @@ module _ (T : Recording) (n l : ℕ) (lines : List ℕ) (k : Known) (rows : Rows
 
 -- ---- A store
 
--- what holds after the next act holds at the next place
+-- what holds after the next act holds at the next slot
 pub stepped : (P : List Act → Type 0) (T : Recording) (n : ℕ) (a : Act) → IsAct T (suc n) a → P (a ∷ history T n) → P (history T (suc n))
 stepped P T n a is p = subst P (sym (history-act T n a is)) p
 
@@ -103,10 +103,10 @@ rising-from : (low high : ℕ) (found : List ℕ) → low ≤ high → IsRising 
 rising-from low high [] le rising = rising
 rising-from low high (j ∷ found) le rising = (omega (arith, le, rising.0), rising.1)
 
-module _ (T : Recording) (n l place word low high : ℕ) (w : Written) (lines : List ℕ) (k : Known) (is : IsKnownAmong T n lines k) (next : IsAct T (suc n) (Stores l w)) (at : IsPlaceOf l place lines) (within : word < k.words_of_line) (eight : high ≤ 8)
+module _ (T : Recording) (n l slot word low high : ℕ) (w : Written) (lines : List ℕ) (k : Known) (is : IsKnownAmong T n lines k) (next : IsAct T (suc n) (Stores l w)) (at : IsSlotOf l slot lines) (within : word < k.words_of_line) (eight : high ≤ 8)
     (writes : WritesIn (word_address T.format.line_size l word) w low high) where
-  pub here : IsWordAt T n (word_address T.format.line_size l word) (last_at k.words (place * k.words_of_line + word))
-  here = is.words.each l place word at within
+  pub here : IsWordAt T n (word_address T.format.line_size l word) (last_at k.words (slot * k.words_of_line + word))
+  here = is.words.each l slot word at within
 
   pub stored-rows : (number : ℕ) (rows : Rows) → number ≡ suc n → AreRows lines (raised l number (λ m. last_line_store_at T m n)) (λ m. safe_store_at T m n) (λ m. last_flush m (history T n)) rows →
       IsKnownWith lines (history T (suc n)) (λ m. safe_store_at T m (suc n)) rows
@@ -126,7 +126,7 @@ module _ (T : Recording) (n l place word low high : ℕ) (w : Written) (lines : 
   pub stored-waiting : AreWaiting lines (history T (suc n)) k.waiting
   stored-waiting = stepped (λ h. AreWaiting lines h k.waiting) T n (Stores l w) next ((waits-on last_line_store).others lines (history T n) k.waiting (Stores l w) (λ t m e. cc) (λ t e. cc) is.waiting)
 
-  pub stored-over : (number flush : ℕ) (old new : List Overwrite) → number ≡ suc n → flush ≡ last_flush l (history T n) → AddsOverwritten flush number low high (last_at k.words (place * k.words_of_line + word)) old new →
+  pub stored-over : (number flush : ℕ) (old new : List Overwrite) → number ≡ suc n → flush ≡ last_flush l (history T n) → AddsOverwritten flush number low high (last_at k.words (slot * k.words_of_line + word)) old new →
       AddsOverwrittenBy T (suc n) old new
   stored-over number flush old new numbered flushed adds = record {
     found = adds.found;
@@ -135,33 +135,33 @@ module _ (T : Recording) (n l place word low high : ℕ) (w : Written) (lines : 
     just = λ j. (λ has. (law j).1 (there j ((adds.just j).0 has)), λ over. (adds.just j).1 (back j ((law j).0 over)));
   }
     where
-      law : (j : ℕ) → IsOverwritten T j (suc n) ↔ ((last_flush l (history T n) < j) × IsLastTo low high (last_at k.words (place * k.words_of_line + word)) j)
-      law j = overwritten_by_word T n l (word_address T.format.line_size l word) low high j w (last_at k.words (place * k.words_of_line + word)) is.trace next writes eight here
+      law : (j : ℕ) → IsOverwritten T j (suc n) ↔ ((last_flush l (history T n) < j) × IsLastTo low high (last_at k.words (slot * k.words_of_line + word)) j)
+      law j = overwritten_by_word T n l (word_address T.format.line_size l word) low high j w (last_at k.words (slot * k.words_of_line + word)) is.trace next writes eight here
 
-      there : (j : ℕ) → (flush < j) × IsLastTo low high (last_at k.words (place * k.words_of_line + word)) j → (last_flush l (history T n) < j) × IsLastTo low high (last_at k.words (place * k.words_of_line + word)) j
+      there : (j : ℕ) → (flush < j) × IsLastTo low high (last_at k.words (slot * k.words_of_line + word)) j → (last_flush l (history T n) < j) × IsLastTo low high (last_at k.words (slot * k.words_of_line + word)) j
       there j (later, last) = (omega (arith, later, flushed), last)
 
-      back : (j : ℕ) → (last_flush l (history T n) < j) × IsLastTo low high (last_at k.words (place * k.words_of_line + word)) j → (flush < j) × IsLastTo low high (last_at k.words (place * k.words_of_line + word)) j
+      back : (j : ℕ) → (last_flush l (history T n) < j) × IsLastTo low high (last_at k.words (slot * k.words_of_line + word)) j → (flush < j) × IsLastTo low high (last_at k.words (slot * k.words_of_line + word)) j
       back j (later, last) = (omega (arith, later, flushed), last)
 
--- the store, once its line has a place
-pub store-here : (T : Recording) (n line place : ℕ) (w : Written) (bytes : WordBytes) (old k : Known) → IsKnownOf T n old → IsStoreNext T n w → line ≡ line_of old.format w.addr → IsKnownAmong T n (with_line line (lines_of (history T n))) k →
-    IsPlaceOf line place k.rows.places → bytes.low < bytes.high → bytes.high ≤ 8 → bytes.word * 8 + 8 ≤ k.format.line_size → WritesIn (word_address k.format.line_size line bytes.word) w bytes.low bytes.high → IsStoreAt T n line place bytes w k
-store-here T n line place w bytes old k before next e known at some eight word writes = record {
+-- the store, once its line has a slot
+pub store-here : (T : Recording) (n line slot : ℕ) (w : Written) (bytes : WordBytes) (old k : Known) → IsKnownOf T n old → IsStoreNext T n w → line ≡ line_of old.format w.addr → IsKnownAmong T n (with_line line (lines_of (history T n))) k →
+    IsSlotOf line slot k.rows.slots → bytes.low < bytes.high → bytes.high ≤ 8 → bytes.word * 8 + 8 ≤ k.format.line_size → WritesIn (word_address k.format.line_size line bytes.word) w bytes.low bytes.high → IsStoreAt T n line slot bytes w k
+store-here T n line slot w bytes old k before next e known at some eight word writes = record {
   known = known;
   is = subst (λ m. IsAct T (suc n) (Stores m w)) (sym (e ∙ ap (λ f. line_of f w.addr) before.format)) next;
-  at = subst (IsPlaceOf line place) known.rows.placed at;
+  at = subst (IsSlotOf line slot) known.rows.placed at;
   word = omega (arith, word, known.many, ap (λ (f : Layout). f.line_size) known.format);
   some = some;
   eight = eight;
   writes = subst (λ (f : Layout). WritesIn (word_address f.line_size line bytes.word) w bytes.low bytes.high) known.format writes;
 }
 
--- an act on a line, once that has a place
-pub act-here : (T : Recording) (n line place : ℕ) (a : Act) (k : Known) → IsKnownAmong T n (with_line line (lines_of (history T n))) k → IsAct T (suc n) a → IsPlaceOf line place k.rows.places → IsActAt T n line place a k
-act-here T n line place a k known next at = record { known = known; is = next; at = subst (IsPlaceOf line place) known.rows.placed at }
+-- an act on a line, once that has a slot
+pub act-here : (T : Recording) (n line slot : ℕ) (a : Act) (k : Known) → IsKnownAmong T n (with_line line (lines_of (history T n))) k → IsAct T (suc n) a → IsSlotOf line slot k.rows.slots → IsActAt T n line slot a k
+act-here T n line slot a k known next at = record { known = known; is = next; at = subst (IsSlotOf line slot) known.rows.placed at }
 
--- the lines of the next place
+-- the lines of the next slot
 pub known-next : (T : Recording) (n : ℕ) (a : Act) (k : Known) → IsAct T (suc n) a → IsKnownAmong T (suc n) (lines_of (a ∷ history T n)) k → IsKnownOf T (suc n) k
 known-next T n a k is known = stepped (λ h. IsKnownAmong T (suc n) (lines_of h) k) T n a is known
 
@@ -178,7 +178,7 @@ or-right : (b c : Bool) → c ≡ true → (b || c) ≡ true
 or-right true c e = refl
 or-right false c e = e
 
-module _ (T : Recording) (n l t place : ℕ) (lines : List ℕ) (k : Known) (is : IsKnownAmong T n lines k) (next : IsAct T (suc n) (Flushes t l)) (at : IsPlaceOf l place lines) where
+module _ (T : Recording) (n l t slot : ℕ) (lines : List ℕ) (k : Known) (is : IsKnownAmong T n lines k) (next : IsAct T (suc n) (Flushes t l)) (at : IsSlotOf l slot lines) where
   pub flushed-rows : (number : ℕ) (rows : Rows) → number ≡ suc n → AreRows lines (λ m. last_line_store_at T m n) (λ m. safe_store_at T m n) (raised l number (λ m. last_flush m (history T n))) rows →
       IsKnownWith lines (history T (suc n)) (λ m. safe_store_at T m (suc n)) rows
   flushed-rows number rows numbered known =
@@ -194,18 +194,18 @@ module _ (T : Recording) (n l t place : ℕ) (lines : List ℕ) (k : Known) (is 
       let same : k.links ++ suc n ∷ [] ≡ links = sym (pushed ∙ ap (λ m. k.links ++ m ∷ []) e) in
       stepped (λ h. AreLinked T (suc n) (λ m. safe_store m h) links) T n (Flushes t l) next (subst (AreLinked T (suc n) (λ m. safe_store_at T m n)) same linked)
 
-  pub flushed-flushed : (last : ℕ) (new : List FirstFlush) (others : List SinceStore) → last ≡ last_line_store_at T l n → HasFirst place last t k.flushed.first.items k.flushed.others.lines.items new others → AreFlushedOf lines (history T (suc n)) new others
-  flushed-flushed last new others e has = stepped (λ h. AreFlushedOf lines h new others) T n (Flushes t l) next (flushed-flush lines t l place last (history T n) k.flushed.first.items k.flushed.others.lines.items new others is.rows.once at e has is.flushed)
+  pub flushed-flushed : (last : ℕ) (new : List FirstFlush) (others : List SinceStore) → last ≡ last_line_store_at T l n → HasFirst slot last t k.flushed.first.items k.flushed.others.lines.items new others → AreFlushedOf lines (history T (suc n)) new others
+  flushed-flushed last new others e has = stepped (λ h. AreFlushedOf lines h new others) T n (Flushes t l) next (flushed-flush lines t l slot last (history T n) k.flushed.first.items k.flushed.others.lines.items new others is.rows.once at e has is.flushed)
 
-  pub flushed-waiting : (f : OpenFlush) (new : List (List OpenFlush)) → f.place ≡ place → f.number ≡ suc n → f.store ≡ last_line_store_at T l n → list_at t new ≡ list_at t k.waiting ++ f ∷ [] → ((u : ℕ) → u ≢ t → list_at u new ≡ list_at u k.waiting) →
+  pub flushed-waiting : (f : OpenFlush) (new : List (List OpenFlush)) → f.slot ≡ slot → f.number ≡ suc n → f.store ≡ last_line_store_at T l n → list_at t new ≡ list_at t k.waiting ++ f ∷ [] → ((u : ℕ) → u ≢ t → list_at u new ≡ list_at u k.waiting) →
       AreWaiting lines (history T (suc n)) new
   flushed-waiting f new placed numbered marked own others =
-      let within : f.place < length lines = omega (arith, placed, slice_get_within lines place l at) in
-      let line : slice_index_or lines f.place 0 ≡ l = ap (λ p. slice_index_or lines p 0) placed ∙ get_or_from_slice_get lines place l 0 at in
+      let within : f.slot < length lines = omega (arith, placed, slice_get_within lines slot l at) in
+      let line : slice_index_or lines f.slot 0 ≡ l = ap (λ p. slice_index_or lines p 0) placed ∙ get_or_from_slice_get lines slot l 0 at in
       let many = length-before T n (Flushes t l) next in
       stepped (λ h. AreWaiting lines h new) T n (Flushes t l) next ((waits-on last_line_store).flush lines t l (history T n) f k.waiting new within line (omega (arith, numbered, many)) marked own others is.waiting)
 
-  pub flushed-tells : (again result : Bool) (safe last : ℕ) → again ≡ tells_at last k.flushed.first.items k.flushed.others.lines.items place t → t < 256 → safe ≡ safe_store_at T l n → last ≡ last_line_store_at T l n → result ≡ (again || (safe == last)) →
+  pub flushed-tells : (again result : Bool) (safe last : ℕ) → again ≡ tells_at last k.flushed.first.items k.flushed.others.lines.items slot t → t < 256 → safe ≡ safe_store_at T l n → last ≡ last_line_store_at T l n → result ≡ (again || (safe == last)) →
       (result ≡ true) ↔ IsRedundantFlush T t l (suc n)
   flushed-tells again result safe last told small safe_is last_is answer = (there, back)
     where
@@ -213,7 +213,7 @@ module _ (T : Recording) (n l t place : ℕ) (lines : List ℕ) (k : Known) (is 
       law = redundant_flush_by_stores T t l n next
 
       again-is : again ≡ has_flushed t l (history T n)
-      again-is = told ∙ ap (λ m. tells_at m k.flushed.first.items k.flushed.others.lines.items place t) last_is ∙ is.flushed.each l place t at small
+      again-is = told ∙ ap (λ m. tells_at m k.flushed.first.items k.flushed.others.lines.items slot t) last_is ∙ is.flushed.each l slot t at small
 
       there : result ≡ true → IsRedundantFlush T t l (suc n)
       there yes_it = elim (or-told again (safe == last) (sym answer ∙ yes_it)) [

@@ -7,8 +7,8 @@ use Rattle.pmt_model.specs.Values.{Span, line_of}
 use Rattle.pmt_model.specs.Traces.{Recording, IsTrace, history, lines_of, has_line}
 use Rattle.pmt_model.specs.Assertions.{InSpan}
 use Rattle.pmt_safety.specs.Safety.{last_line_store_at, safe_store_at}
-use Rattle.pmt_tables.specs.Places.{IsPlaceOf}
-use Rattle.pmt_tables.proofs.ListLemmas.{list_any-has_line, list_any-place}
+use Rattle.pmt_tables.specs.Slots.{IsSlotOf}
+use Rattle.pmt_tables.proofs.ListLemmas.{list_any-has_line, list_any-slot}
 use Rattle.pmt_rows.specs.declared.rows.Row.{Row}
 use Rattle.pmt_tables.specs.Lasts.{IsLastTo, IsLeastAbove, IsNewest}
 use Rattle.pmt_tables.specs.Written.{last_number}
@@ -27,19 +27,19 @@ use Rattle.pmt_sweep.specs.Placed.{IsLineOf}
 
 -- ---- Lines without stores to the range
 
--- no store has come to a line that has no place
-none-without : (T : Recording) (n l : ℕ) (k : Known) → IsKnownOf T n k → ((place : ℕ) → IsPlaceOf l place (lines_of (history T n)) → ⊥) → last_line_store_at T l n ≡ 0
+-- no store has come to a line that has no slot
+none-without : (T : Recording) (n l : ℕ) (k : Known) → IsKnownOf T n k → ((slot : ℕ) → IsSlotOf l slot (lines_of (history T n)) → ⊥) → last_line_store_at T l n ≡ 0
 none-without T n l k known without = ap (λ (y : Row). y.last_store) (known.rows.others l (go (has_line l (lines_of (history T n))) refl))
   where
     go : (b : Bool) → has_line l (lines_of (history T n)) ≡ b → has_line l (lines_of (history T n)) ≡ false
     go false e = e
-    go true e = let at = list_any-place (lines_of (history T n)) l (list_any-has_line l (lines_of (history T n)) ∙ e) in absurd (without at.0 at.1)
+    go true e = let at = list_any-slot (lines_of (history T n)) l (list_any-has_line l (lines_of (history T n)) ∙ e) in absurd (without at.0 at.1)
 
 -- The bytes of A in line l have no last store.
 abbrev pub IsLineBare : Recording → ℕ → Span → ℕ → Type 0
 IsLineBare T n A l = EachIn T A l (λ b. last_number T n b ≡ 0)
 
-pub bare-unplaced : (T : Recording) (n l : ℕ) (A : Span) (k : Known) → IsKnownOf T n k → ((place : ℕ) → IsPlaceOf l place (lines_of (history T n)) → ⊥) → IsLineBare T n A l
+pub bare-unplaced : (T : Recording) (n l : ℕ) (A : Span) (k : Known) → IsKnownOf T n k → ((slot : ℕ) → IsSlotOf l slot (lines_of (history T n)) → ⊥) → IsLineBare T n A l
 bare-unplaced T n l A k known without b own here = omega (arith, byte-le_last T n b known.trace, ap (λ m. last_line_store_at T m n) here, none-without T n l k known without)
 
 -- a line that the range does not meet has none of its bytes
@@ -152,9 +152,9 @@ last-safe T n l A trace le = (safe-before T n l A).0 (λ b own here. omega (arit
 pub bare-safe : (T : Recording) (n l : ℕ) (A : Span) → IsLineBare T n A l → IsLineSafe T n A l
 bare-safe T n l A bare b own here = omega (arith, bare b own here)
 
--- ---- A line with its place
+-- ---- A line with its slot
 
-pub at-line : (T : Recording) (n : ℕ) (A : Span) (s : Spanned) (at : Placed) (k : Known) → IsLineOf T n A s at.line k → IsPlaceOf at.line at.place (lines_of (history T n)) → at.place < 2 ^ 32 → IsAtLine T n A s at k
+pub at-line : (T : Recording) (n : ℕ) (A : Span) (s : Spanned) (at : Placed) (k : Known) → IsLineOf T n A s at.line k → IsSlotOf at.line at.slot (lines_of (history T n)) → at.slot < 2 ^ 32 → IsAtLine T n A s at k
 at-line T n A s at k is here small = record {
   spanned = is.spanned;
   from = is.first;

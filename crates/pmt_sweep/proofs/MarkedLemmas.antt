@@ -12,8 +12,8 @@ use Rattle.pmt_safety.specs.Safety.{last_line_store_at, safe_store_at, IsSafeFro
 use Rattle.pmt_safety.proofs.SafetyLemmas.{safe-up_to, safe_from_is_passed}
 use Rattle.pmt_safety.proofs.StoreLemmas.{last-greatest}
 use Rattle.pmt_rows.proofs.LinkedLemmas.{safe-by_now}
-use Rattle.pmt_tables.specs.Places.{IsPlaceOf}
-use Rattle.pmt_tables.proofs.ListLemmas.{one-place}
+use Rattle.pmt_tables.specs.Slots.{IsSlotOf}
+use Rattle.pmt_tables.proofs.ListLemmas.{one-slot}
 use Rattle.pmt_rows.specs.declared.rows.Row.{Row}
 use Rattle.pmt_rows.specs.declared.rows.Rows.{Rows}
 use Rattle.pmt_rows.specs.Known.{row_after}
@@ -29,24 +29,24 @@ all_lines T = lines_of (history T (length T.events))
 pub same-line : (T : Recording) (k l j : ℕ) (v w : Written) → IsAct T j (Stores k v) → IsAct T j (Stores l w) → k ≡ l
 same-line T k l j v w first second = let same = act-unique T j (Stores k v) (Stores l w) first second in cc
 
--- a line that is among them has a place
-line-placed : (l : ℕ) (lines : List ℕ) → has_line l lines ≡ true → (p : ℕ) × IsPlaceOf l p lines
+-- a line that is among them has a slot
+line-placed : (l : ℕ) (lines : List ℕ) → has_line l lines ≡ true → (p : ℕ) × IsSlotOf l p lines
 line-placed l [] has = absurd (false≢true has)
 line-placed l (k ∷ lines) has = go (k == l) refl has (line-placed l lines)
   where
-    go : (b : Bool) → (k == l) ≡ b → (b || has_line l lines) ≡ true → (has_line l lines ≡ true → (p : ℕ) × IsPlaceOf l p lines) → (p : ℕ) × IsPlaceOf l p (k ∷ lines)
+    go : (b : Bool) → (k == l) ≡ b → (b || has_line l lines) ≡ true → (has_line l lines ≡ true → (p : ℕ) × IsSlotOf l p lines) → (p : ℕ) × IsSlotOf l p (k ∷ lines)
     go true same has rest = (0, ap Some (eqb-true k l same))
     go false other has rest = let x = rest has in (suc x.0, x.1)
 
--- The lines at the first places are marked.
-pub record AreMarkedTo (T : Recording) (old new : List ℕ) (place : ℕ) : Type 0 where
+-- The lines at the first slots are marked.
+pub record AreMarkedTo (T : Recording) (old new : List ℕ) (slot : ℕ) : Type 0 where
   pub many : length new ≡ length old
-  pub own : (l p j : ℕ) → IsPlaceOf l p (all_lines T) → p < place → IsLost T l j → slice_index new j ≡ lost_entry T l j
-  pub others : (j : ℕ) → ((l p : ℕ) → IsPlaceOf l p (all_lines T) → p < place → ¬ IsLost T l j) → slice_index new j ≡ slice_index old j
+  pub own : (l p j : ℕ) → IsSlotOf l p (all_lines T) → p < slot → IsLost T l j → slice_index new j ≡ lost_entry T l j
+  pub others : (j : ℕ) → ((l p : ℕ) → IsSlotOf l p (all_lines T) → p < slot → ¬ IsLost T l j) → slice_index new j ≡ slice_index old j
 
--- All lost stores to the lines at the first places come after this event.
+-- All lost stores to the lines at the first slots come after this event.
 abbrev pub AreLostAfterTo : Recording → ℕ → ℕ → Type 0
-AreLostAfterTo T place before = (l p j : ℕ) → IsPlaceOf l p (all_lines T) → p < place → IsLost T l j → before < j
+AreLostAfterTo T slot before = (l p j : ℕ) → IsSlotOf l p (all_lines T) → p < slot → IsLost T l j → before < j
 
 module _ (T : Recording) (rows : Rows) (old : List ℕ) (ends : AreEndsOf T (length T.events) rows old) where
   pub marked-none : AreMarkedTo T old old 0
@@ -55,54 +55,54 @@ module _ (T : Recording) (rows : Rows) (old : List ℕ) (ends : AreEndsOf T (len
   pub many-rows : length rows.rows.items ≡ length (all_lines T)
   many-rows = ap length ends.rows.rows ∙ length-map (all_lines T) (row_after (λ l. safe_store_at T l (length T.events)) (history T (length T.events)))
 
-  -- two places of one store's lines are one
-  one-line : (k l p q j : ℕ) → IsPlaceOf k p (all_lines T) → IsPlaceOf l q (all_lines T) → IsLost T k j → IsLost T l j → p ≡ q
+  -- two slots of one store's lines are one
+  one-line : (k l p q j : ℕ) → IsSlotOf k p (all_lines T) → IsSlotOf l q (all_lines T) → IsLost T k j → IsLost T l j → p ≡ q
   one-line k l p q j at there first second =
       let line = same-line T k l j first.what second.what first.is_store second.is_store in
-      one-place (all_lines T) l p q ends.rows.once (subst (λ m. IsPlaceOf m p (all_lines T)) line at) there
+      one-slot (all_lines T) l p q ends.rows.once (subst (λ m. IsSlotOf m p (all_lines T)) line at) there
 
-  module _ (new : List ℕ) (place l : ℕ) (at : IsPlaceOf l place (all_lines T)) (so_far : AreMarkedTo T old new place) where
+  module _ (new : List ℕ) (slot l : ℕ) (at : IsSlotOf l slot (all_lines T)) (so_far : AreMarkedTo T old new slot) where
     pub line-ends : (row : Row) → row ≡ row_after (λ k. safe_store_at T k (length T.events)) (history T (length T.events)) l → IsLineEnd T l row new
     line-ends row is = record {
       ends = is;
       many = so_far.many ∙ ends.entries.many;
       pending = λ i lost.
           let within = act-within T (suc i) (Stores l lost.what) lost.is_store in
-          so_far.others (suc i) (λ k p there less other. let same = one-line k l p place (suc i) there at other lost in omega (arith, less, same))
+          so_far.others (suc i) (λ k p there less other. let same = one-line k l p slot (suc i) there at other lost in omega (arith, less, same))
           ∙ ends.entries.pending l i lost.what (omega (arith, within.1)) lost.is_store lost.later;
     }
 
-    pub marked-next : (after : List ℕ) → IsLineMarked T l new after → AreMarkedTo T old after (place + 1)
+    pub marked-next : (after : List ℕ) → IsLineMarked T l new after → AreMarkedTo T old after (slot + 1)
     marked-next after line = record {
       many = line.many ∙ so_far.many;
       own = own;
-      others = λ j none. line.others j (λ lost. none l place at (omega arith) lost) ∙ so_far.others j (λ k p there less. none k p there (omega (arith, less)));
+      others = λ j none. line.others j (λ lost. none l slot at (omega arith) lost) ∙ so_far.others j (λ k p there less. none k p there (omega (arith, less)));
     }
       where
-        own : (k p j : ℕ) → IsPlaceOf k p (all_lines T) → p < place + 1 → IsLost T k j → slice_index after j ≡ lost_entry T k j
-        own k p j there less lost = elim (cases_lt p place) [
-          | inl before ↦ line.others j (λ other. let same = one-line k l p place j there at lost other in omega (arith, before, same)) ∙ so_far.own k p j there before lost
+        own : (k p j : ℕ) → IsSlotOf k p (all_lines T) → p < slot + 1 → IsLost T k j → slice_index after j ≡ lost_entry T k j
+        own k p j there less lost = elim (cases_lt p slot) [
+          | inl before ↦ line.others j (λ other. let same = one-line k l p slot j there at lost other in omega (arith, before, same)) ∙ so_far.own k p j there before lost
           | inr last ↦
-              let same : p ≡ place = omega (arith, less, last) in
+              let same : p ≡ slot = omega (arith, less, last) in
               let here : Some k ≡ Some l = sym there ∙ ap (λ q. slice_get (all_lines T) q) same ∙ at in
               let own_line : l ≡ k = cc in
               subst (λ m. slice_index after j ≡ lost_entry T m j) own_line (line.own j (subst (λ m. IsLost T m j) (sym own_line) lost))
         ]
 
   -- one line more
-  pub after-next : (place l before own least : ℕ) → IsPlaceOf l place (all_lines T) → least ≤ before → least ≤ own → AreLostAfterTo T place before → IsLineLostAfter T l own → AreLostAfterTo T (place + 1) least
-  after-next place l before own least at first second so_far line k p j there less lost = elim (cases_lt p place) [
+  pub after-next : (slot l before own least : ℕ) → IsSlotOf l slot (all_lines T) → least ≤ before → least ≤ own → AreLostAfterTo T slot before → IsLineLostAfter T l own → AreLostAfterTo T (slot + 1) least
+  after-next slot l before own least at first second so_far line k p j there less lost = elim (cases_lt p slot) [
     | inl earlier ↦ omega (arith, first, so_far k p j there earlier lost)
     | inr last ↦
-        let same : p ≡ place = omega (arith, less, last) in
+        let same : p ≡ slot = omega (arith, less, last) in
         let here : Some k ≡ Some l = sym there ∙ ap (λ q. slice_get (all_lines T) q) same ∙ at in
         let own_line : k ≡ l = cc in
         omega (arith, second, line j (subst (λ m. IsLost T m j) own_line lost))
   ]
 
-  module _ (new : List ℕ) (place : ℕ) (all : length (all_lines T) ≤ place) (so_far : AreMarkedTo T old new place) where
-    -- the line of a store has a place
-    placed : (l j : ℕ) (w : Written) → IsAct T j (Stores l w) → (p : ℕ) × IsPlaceOf l p (all_lines T)
+  module _ (new : List ℕ) (slot : ℕ) (all : length (all_lines T) ≤ slot) (so_far : AreMarkedTo T old new slot) where
+    -- the line of a store has a slot
+    placed : (l j : ℕ) (w : Written) → IsAct T j (Stores l w) → (p : ℕ) × IsSlotOf l p (all_lines T)
     placed l j w is = line-placed l (all_lines T) (go (has_line l (all_lines T)) refl)
       where
         go : (b : Bool) → has_line l (all_lines T) ≡ b → b ≡ true
@@ -128,9 +128,9 @@ module _ (T : Recording) (rows : Rows) (old : List ℕ) (ends : AreEndsOf T (len
         subst (IsSafeFrom T l j) (sym (kept j (none-lost l j w is safe))) (ends.entries.passed l j w within.1 is safe)
 
     -- its entry is the number of a place
-    is-place : (j : ℕ) → 1 ≤ j → j ≤ length T.events → ((l : ℕ) → ¬ IsLost T l j) → (1 ≤ slice_index new j) × (slice_index new j ≤ length T.events)
-    is-place zero some by_now none = absurd (omega (arith, some))
-    is-place (suc i) some by_now none = let e = event-some T i (omega (arith, by_now)) in go (act T.format e.0) (e.0, e.1, refl)
+    is-slot : (j : ℕ) → 1 ≤ j → j ≤ length T.events → ((l : ℕ) → ¬ IsLost T l j) → (1 ≤ slice_index new j) × (slice_index new j ≤ length T.events)
+    is-slot zero some by_now none = absurd (omega (arith, some))
+    is-slot (suc i) some by_now none = let e = event-some T i (omega (arith, by_now)) in go (act T.format e.0) (e.0, e.1, refl)
       where
         other : (a : Act) → IsAct T (suc i) a → ((l : ℕ) (w : Written) → a ≡ Stores l w → ⊥) → (1 ≤ slice_index new (suc i)) × (slice_index new (suc i) ≤ length T.events)
         other a is no_store =
@@ -160,9 +160,9 @@ module _ (T : Recording) (rows : Rows) (old : List ℕ) (ends : AreEndsOf T (len
       trace = ends.trace;
       many = so_far.many ∙ ends.entries.many;
       lost = λ l j lost. let x = placed l j lost.what lost.is_store in so_far.own l x.0 j x.1 (omega (arith, slice_get_within (all_lines T) x.0 l x.1, all)) lost;
-      others = is-place;
+      others = is-slot;
       safe = safe-from;
     }
 
-    pub after-all : (before : ℕ) → AreLostAfterTo T place before → AreLostAfter T before
+    pub after-all : (before : ℕ) → AreLostAfterTo T slot before → AreLostAfter T before
     after-all before so_far_after l j lost = let x = placed l j lost.what lost.is_store in so_far_after l x.0 j x.1 (omega (arith, slice_get_within (all_lines T) x.0 l x.1, all)) lost

@@ -13,7 +13,7 @@ use Rattle.pmt_laws.proofs.OverwrittenLemmas.{LastWriter, last_store_number-from
 use Rattle.pmt_safety.specs.Safety.{last_line_store_at}
 use Rattle.pmt_safety.proofs.StoreLemmas.{last-greatest, last-is_store}
 use Rattle.pmt_tables.specs.Lasts.{IsLeastAbove, IsLastTo}
-use Rattle.pmt_tables.specs.Places.{IsPlaceOf}
+use Rattle.pmt_tables.specs.Slots.{IsSlotOf}
 use Rattle.pmt_tables.specs.Written.{last_number}
 use Rattle.pmt_tables.proofs.LineLemmas.{writes-line}
 use Rattle.pmt_tables.proofs.ListLemmas.{push-cases}
@@ -112,12 +112,12 @@ module _ (T : Recording) (n : ℕ) (found : List OldestStore) where
       later lines are = record { few = are.few; each = λ l p at. let it = are.each l p at in record { by_now = omega (arith, it.by_now); oldest = it.oldest } }
 
 -- one more is found
-pub oldest-kept : (T : Recording) (n l place : ℕ) (x : OldestStore) (old new : List OldestStore) → IsPlaceOf l place (lines_of (history T n)) → IsOldestOf T n l x → length new ≤ max (length old) (place + 1) → ((p : ℕ) → IsKeptAt place x old new p) → AreOldestOf T n old →
+pub oldest-kept : (T : Recording) (n l slot : ℕ) (x : OldestStore) (old new : List OldestStore) → IsSlotOf l slot (lines_of (history T n)) → IsOldestOf T n l x → length new ≤ max (length old) (slot + 1) → ((p : ℕ) → IsKeptAt slot x old new p) → AreOldestOf T n old →
     AreOldestOf T n new
-oldest-kept T n l place x old new here is few kept are = record {
-  few = omega (arith, few, are.few, slice_get_within (lines_of (history T n)) place l here);
+oldest-kept T n l slot x old new here is few kept are = record {
+  few = omega (arith, few, are.few, slice_get_within (lines_of (history T n)) slot l here);
   each = λ k p at. elim (kept p) [
     | inl same ↦ subst (IsOldestOf T n k) (sym same) (are.each k p at)
-    | inr own ↦ let line : l ≡ k = same_Some l k (sym here ∙ subst (λ q. IsPlaceOf k q (lines_of (history T n))) own.0 at) in subst (IsOldestOf T n k) (sym own.1) (subst (λ m. IsOldestOf T n m x) line is)
+    | inr own ↦ let line : l ≡ k = same_Some l k (sym here ∙ subst (λ q. IsSlotOf k q (lines_of (history T n))) own.0 at) in subst (IsOldestOf T n k) (sym own.1) (subst (λ m. IsOldestOf T n m x) line is)
   ];
 }

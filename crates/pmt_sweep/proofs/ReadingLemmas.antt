@@ -152,17 +152,17 @@ all-of_word i high within = record {
   just = λ k few. (λ inside. (omega arith, omega (arith, few, within)), λ at. (omega arith, few));
 }
 
--- ---- The words of a line at its place
+-- ---- The words of a line at its slot
 
-module _ (T : Recording) (n l place : ℕ) (k : Known) (it : IsLineAt T n l place k) where
+module _ (T : Recording) (n l slot : ℕ) (k : Known) (it : IsLineAt T n l slot k) where
   pub line-size : k.words_of_line * 8 ≡ k.format.line_size
   line-size = it.known.many ∙ ap (λ (f : Layout). f.line_size) (sym it.known.format)
 
   -- a word of the line has the last stores to its bytes
-  pub word-same : (word : ℕ) → word * 8 < k.format.line_size → (i : ℕ) → i < 8 → last_at k.words (place * k.words_of_line + word) i ≡ last_in_line T n l (word * 8 + i)
+  pub word-same : (word : ℕ) → word * 8 < k.format.line_size → (i : ℕ) → i < 8 → last_at k.words (slot * k.words_of_line + word) i ≡ last_in_line T n l (word * 8 + i)
   word-same word less i few =
       let sum : word_address T.format.line_size l word + i ≡ l * T.format.line_size + (word * 8 + i) = omega arith in
-      it.known.words.each l place word it.at (omega (arith, less, line-size)) i few ∙ ap (last_number T n) sum
+      it.known.words.each l slot word it.at (omega (arith, less, line-size)) i few ∙ ap (last_number T n) sum
 
   pub newest-of_whole : (low high number : ℕ) → low < high → high ≤ k.format.line_size → high - low ≡ k.format.line_size → number ≡ last_line_store_at T l n → IsNewest low high (last_in_line T n l) number
   newest-of_whole low high number some within all last =

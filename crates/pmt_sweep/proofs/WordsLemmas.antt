@@ -13,8 +13,8 @@ use Rattle.pmt_model.specs.Findings.{last_store_number}
 use Rattle.pmt_laws.proofs.OverwrittenLemmas.{last_store_number-is}
 use Rattle.pmt_safety.specs.Safety.{last_line_store_at}
 use Rattle.pmt_safety.proofs.StoreLemmas.{last-greatest}
-use Rattle.pmt_tables.specs.Places.{IsPlaceOf}
-use Rattle.pmt_tables.proofs.ListLemmas.{one-place, push-cases}
+use Rattle.pmt_tables.specs.Slots.{IsSlotOf}
+use Rattle.pmt_tables.proofs.ListLemmas.{one-slot, push-cases}
 use Rattle.pmt_tables.specs.Lasts.{last_at, is_in, with_store}
 use Rattle.pmt_tables.specs.Written.{last_number, IsWordAt, WritesIn}
 use Rattle.pmt_tables.proofs.LineLemmas.{byte-from_writes, writes-line}
@@ -56,7 +56,7 @@ words-new T n many l lines old new trace size none added are = record {
     one-more : length lines * many + many ≡ (length lines + 1) * many
     one-more = omega arith
 
-    each : (k p i : ℕ) → IsPlaceOf k p (lines ++ l ∷ []) → i < many → IsWordAt T n (word_address T.format.line_size k i) (last_at new (p * many + i))
+    each : (k p i : ℕ) → IsSlotOf k p (lines ++ l ∷ []) → i < many → IsWordAt T n (word_address T.format.line_size k i) (last_at new (p * many + i))
     each k p i at within b few = elim (push-cases lines l k p at) [
       | inl before ↦
           let inside = mul-add-lt p many i (length lines) (slice_get_within lines p k before) within in
@@ -82,27 +82,27 @@ apart size l i k m low high b w differ one two eight it few = go (writes w (word
         let parts = same_from_place l (i * 8 + byte) k (m * 8 + b) size (omega (arith, at.1, it.from, it.to, eight, one)) (omega (arith, few, two)) same in
         absurd (differ (parts.0, omega (arith, parts.1, at.0, at.1, it.from, it.to, eight, few)))
 
-pub words-store : (T : Recording) (n many l place i low high : ℕ) (w : Written) (lines : List ℕ) (old new : List (List ℕ)) → many * 8 ≡ T.format.line_size → IsAct T (suc n) (Stores l w) → IsDistinct nat_eq lines → IsPlaceOf l place lines → i < many → high ≤ 8 →
-    WritesIn (word_address T.format.line_size l i) w low high → length new ≡ length old → ((j k : ℕ) → j < length old → k < 8 → last_at new j k ≡ with_store (place * many + i) low high (suc n) (last_at old) j k) → AreWordsOf T n many lines old →
+pub words-store : (T : Recording) (n many l slot i low high : ℕ) (w : Written) (lines : List ℕ) (old new : List (List ℕ)) → many * 8 ≡ T.format.line_size → IsAct T (suc n) (Stores l w) → IsDistinct nat_eq lines → IsSlotOf l slot lines → i < many → high ≤ 8 →
+    WritesIn (word_address T.format.line_size l i) w low high → length new ≡ length old → ((j k : ℕ) → j < length old → k < 8 → last_at new j k ≡ with_store (slot * many + i) low high (suc n) (last_at old) j k) → AreWordsOf T n many lines old →
     AreWordsOf T (suc n) many lines new
-words-store T n many l place i low high w lines old new size is once at within eight it same_length stored are = record { in_all = same_length ∙ are.in_all; each = each }
+words-store T n many l slot i low high w lines old new size is once at within eight it same_length stored are = record { in_all = same_length ∙ are.in_all; each = each }
   where
-    inside : (k p m : ℕ) → IsPlaceOf k p lines → m < many → p * many + m < length old
+    inside : (k p m : ℕ) → IsSlotOf k p lines → m < many → p * many + m < length old
     inside k p m there small = let h = mul-add-lt p many m (length lines) (slice_get_within lines p k there) small in omega (arith, h, are.in_all)
 
-    own : (b : ℕ) → b < 8 → last_at new (place * many + i) b ≡ last_number T (suc n) (word_address T.format.line_size l i + b)
+    own : (b : ℕ) → b < 8 → last_at new (slot * many + i) b ≡ last_number T (suc n) (word_address T.format.line_size l i + b)
     own b few =
-        let e : ((place * many + i) == (place * many + i)) ≡ true = eq-eqb (place * many + i) (place * many + i) refl in
-        let told : last_at new (place * many + i) b ≡ (if is_in low high b then suc n else last_at old (place * many + i) b) =
-        stored (place * many + i) b (inside l place i at within) few ∙ ap (λ t. if t && is_in low high b then suc n else last_at old (place * many + i) b) e in
-        told ∙ words_go_on.store T n l (word_address T.format.line_size l i) low high w (last_at old (place * many + i)) is it (are.each l place i at within) b few
+        let e : ((slot * many + i) == (slot * many + i)) ≡ true = eq-eqb (slot * many + i) (slot * many + i) refl in
+        let told : last_at new (slot * many + i) b ≡ (if is_in low high b then suc n else last_at old (slot * many + i) b) =
+        stored (slot * many + i) b (inside l slot i at within) few ∙ ap (λ t. if t && is_in low high b then suc n else last_at old (slot * many + i) b) e in
+        told ∙ words_go_on.store T n l (word_address T.format.line_size l i) low high w (last_at old (slot * many + i)) is it (are.each l slot i at within) b few
 
-    each : (k p m : ℕ) → IsPlaceOf k p lines → m < many → IsWordAt T (suc n) (word_address T.format.line_size k m) (last_at new (p * many + m))
-    each k p m there small b few = go ((p * many + m) == (place * many + i)) refl
+    each : (k p m : ℕ) → IsSlotOf k p lines → m < many → IsWordAt T (suc n) (word_address T.format.line_size k m) (last_at new (p * many + m))
+    each k p m there small b few = go ((p * many + m) == (slot * many + i)) refl
       where
-        go : (t : Bool) → ((p * many + m) == (place * many + i)) ≡ t → last_at new (p * many + m) b ≡ last_number T (suc n) (word_address T.format.line_size k m + b)
+        go : (t : Bool) → ((p * many + m) == (slot * many + i)) ≡ t → last_at new (p * many + m) b ≡ last_number T (suc n) (word_address T.format.line_size k m + b)
         go true e =
-            let parts = same_from_place p m place i many small within (eqb-true (p * many + m) (place * many + i) e) in
+            let parts = same_from_place p m slot i many small within (eqb-true (p * many + m) (slot * many + i) e) in
             let line : k ≡ l = same_Some k l (sym there ∙ ap (slice_get lines) parts.0 ∙ at) in
             rw (parts.0, parts.1, line) (own b few)
         go false e =
@@ -112,9 +112,9 @@ words-store T n many l place i low high w lines old new size is once at within e
           where
             differ : (l ≡ k) × (i ≡ m) → ⊥
             differ same =
-                let p_place : place ≡ p = one-place lines k place p once (ap (slice_get lines) refl ∙ at ∙ ap Some same.0) there in
-                let one : (p * many + m) ≡ (place * many + i) = ap (λ q. q * many + m) (sym p_place) ∙ ap (λ j. place * many + j) (sym same.1) in
-                both_ways ((p * many + m) == (place * many + i)) e (eq-eqb (p * many + m) (place * many + i) one)
+                let p_place : slot ≡ p = one-slot lines k slot p once (ap (slice_get lines) refl ∙ at ∙ ap Some same.0) there in
+                let one : (p * many + m) ≡ (slot * many + i) = ap (λ q. q * many + m) (sym p_place) ∙ ap (λ j. slot * many + j) (sym same.1) in
+                both_ways ((p * many + m) == (slot * many + i)) e (eq-eqb (p * many + m) (slot * many + i) one)
 
             free : (line c : ℕ) (v : Written) → Stores l w ≡ Stores line v → c < 8 → writes v (word_address T.format.line_size k m + c) ≡ false
             free line c v same c_few =

@@ -89,5 +89,5 @@ pub record IsAtLine (T : Recording) (n : ℕ) (A : Span) (s : Spanned) (p : Plac
   pub spanned : IsSpanned T.format A s
   pub from : s.first ≤ p.line
   pub to : p.line ≤ s.last
-  pub line : IsLineAt T n p.line p.place k
-  pub small : p.place < 2 ^ 32
+  pub line : IsLineAt T n p.line p.slot k
+  pub small : p.slot < 2 ^ 32

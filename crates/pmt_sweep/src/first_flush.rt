@@ -18,7 +18,7 @@ const NONE: FirstFlush = FirstFlush {
     thread: 0,
 };
 
-/// Of each line, by its place, the threads that have flushed it since its last store: mostly there is one, which takes 8 bytes. A store
+/// Of each line, by its slot, the threads that have flushed it since its last store: mostly there is one, which takes 8 bytes. A store
 /// changes nothing here: what is of an older store is let go at the next flush.
 #[derive(Drop)]
 pub(crate) struct FirstFlushes {
@@ -38,23 +38,18 @@ impl FirstFlushes {
         }
     }
 
-    // A flush by the thread of the line at this place, whose last store is this one: whether it has flushed it since.
+    // A flush by the thread of the line at this slot, whose last store is this one: whether it has flushed it since.
     #[inline(always)]
-    pub(crate) fn flush(
-        &mut self,
-        place: usize,
-        store: u32,
-        thread: u8,
-    ) -> Result<bool, OutOfMemory>
-        requires { place < 2 ^ 32 }
-        ensures tells { IfOk result (λ again. again ≡ tells_at store self.old.first.items self.old.others.lines.items place thread) }
-        ensures flushed { OnOk result (HasFirst place store thread self.old.first.items self.old.others.lines.items self.new.first.items self.new.others.lines.items) }
+    pub(crate) fn flush(&mut self, slot: usize, store: u32, thread: u8) -> Result<bool, OutOfMemory>
+        requires { slot < 2 ^ 32 }
+        ensures tells { IfOk result (λ again. again ≡ tells_at store self.old.first.items self.old.others.lines.items slot thread) }
+        ensures flushed { OnOk result (HasFirst slot store thread self.old.first.items self.old.others.lines.items self.new.first.items self.new.others.lines.items) }
     {
-        reach(&mut self.first, place)?;
-        let first = self.first[place];
+        reach(&mut self.first, slot)?;
+        let first = self.first[slot];
         if first.thread == 0 || first.store != store {
-            self.others.clear(place);
-            self.first[place] = FirstFlush {
+            self.others.clear(slot);
+            self.first[slot] = FirstFlush {
                 store,
                 thread: thread as u32 + 1,
             };
@@ -63,23 +58,23 @@ impl FirstFlushes {
         if first.thread == thread as u32 + 1 {
             return Ok(true);
         }
-        self.others.flush(place, store, thread)
+        self.others.flush(slot, store, thread)
     }
 }
 
-// Makes a place for the line.
+// Makes a slot for the line.
 #[inline(always)]
-fn reach(first: &mut Vec<FirstFlush>, place: usize) -> Result<(), OutOfMemory>
-    requires { place < 2 ^ 32 }
-    ensures many { OnOk result (length first.new.items ≡ max (length first.old.items) (place + 1)) }
+fn reach(first: &mut Vec<FirstFlush>, slot: usize) -> Result<(), OutOfMemory>
+    requires { slot < 2 ^ 32 }
+    ensures many { OnOk result (length first.new.items ≡ max (length first.old.items) (slot + 1)) }
     ensures same { OnOk result ((p : ℕ) → get_or first.new.items p none_first ≡ get_or first.old.items p none_first) }
 {
     let many = first.len();
-    if many == place {
+    if many == slot {
         // mostly just this one lacks
         first.push(NONE)?;
-    } else if many < place {
-        first.resize(place + 1, NONE)?;
+    } else if many < slot {
+        first.resize(slot + 1, NONE)?;
     }
     Ok(())
 }

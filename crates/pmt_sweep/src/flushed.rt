@@ -14,7 +14,7 @@ pub(crate) struct SinceStore {
     threads: Flushers,
 }
 
-/// Of each line, by its place, threads that have flushed it since its last store. A store changes nothing here: what is of an older store
+/// Of each line, by its slot, threads that have flushed it since its last store. A store changes nothing here: what is of an older store
 /// is let go at the next flush.
 #[derive(Drop)]
 pub(crate) struct FlushedLines {
@@ -30,41 +30,36 @@ impl FlushedLines {
         }
     }
 
-    // A flush by the thread of the line at this place, whose last store is this one: whether it has flushed it since.
+    // A flush by the thread of the line at this slot, whose last store is this one: whether it has flushed it since.
     #[inline(never)]
-    pub(crate) fn flush(
-        &mut self,
-        place: usize,
-        store: u32,
-        thread: u8,
-    ) -> Result<bool, OutOfMemory>
-        requires { place < 2 ^ 32 }
-        ensures tells { IfOk result (λ again. again ≡ tells_flush store (get_or self.old.lines.items place none_since) thread) }
-        ensures flushed { OnOk result (HasFlush place store thread self.old.lines.items self.new.lines.items) }
+    pub(crate) fn flush(&mut self, slot: usize, store: u32, thread: u8) -> Result<bool, OutOfMemory>
+        requires { slot < 2 ^ 32 }
+        ensures tells { IfOk result (λ again. again ≡ tells_flush store (get_or self.old.lines.items slot none_since) thread) }
+        ensures flushed { OnOk result (HasFlush slot store thread self.old.lines.items self.new.lines.items) }
     {
-        self.reach(place)?;
-        flush_line(&mut self.lines[place], store, thread)
+        self.reach(slot)?;
+        flush_line(&mut self.lines[slot], store, thread)
     }
 
-    // Nobody has flushed the line at this place any more.
+    // Nobody has flushed the line at this slot any more.
     #[inline(always)]
-    pub(crate) fn clear(&mut self, place: usize)
-        ensures own { (last t : ℕ) → t < 256 → tells_flush last (get_or self.new.lines.items place none_since) t ≡ false }
-        ensures others { (p : ℕ) → p ≢ place → get_or self.new.lines.items p none_since ≡ get_or self.old.lines.items p none_since }
+    pub(crate) fn clear(&mut self, slot: usize)
+        ensures own { (last t : ℕ) → t < 256 → tells_flush last (get_or self.new.lines.items slot none_since) t ≡ false }
+        ensures others { (p : ℕ) → p ≢ slot → get_or self.new.lines.items p none_since ≡ get_or self.old.lines.items p none_since }
     {
-        if place < self.lines.len() {
-            self.lines[place].threads.clear();
+        if slot < self.lines.len() {
+            self.lines[slot].threads.clear();
         }
     }
 
-    // Makes a place for the line.
+    // Makes a slot for the line.
     #[inline(always)]
-    fn reach(&mut self, place: usize) -> Result<(), OutOfMemory>
-        requires { place < 2 ^ 32 }
-        ensures many { OnOk result (length self.new.lines.items ≡ max (length self.old.lines.items) (place + 1)) }
+    fn reach(&mut self, slot: usize) -> Result<(), OutOfMemory>
+        requires { slot < 2 ^ 32 }
+        ensures many { OnOk result (length self.new.lines.items ≡ max (length self.old.lines.items) (slot + 1)) }
         ensures alike { (p : ℕ) → IsAlike self.old.lines.items self.new.lines.items p }
     {
-        while self.lines.len() <= place {
+        while self.lines.len() <= slot {
             let threads = Flushers::new(*self.lines.allocator());
             self.lines.push(SinceStore { store: 0, threads })?;
         }

@@ -5,7 +5,7 @@ ghost use Rattle.pmt_model.specs.Keeping.{IsKept};
 ghost use Rattle.pmt_model.specs.Machine.{Asserts, Clflushes, Fences, Flushes};
 ghost use Rattle.pmt_model.specs.Traces.{Recording, IsAct, IsTrace, history, lines_of, with_line};
 ghost use Rattle.pmt_model.specs.Values.{Written};
-ghost use Rattle.pmt_tables.specs.Places.{IsPlaceOf};
+ghost use Rattle.pmt_tables.specs.Slots.{IsSlotOf};
 ghost use Rattle.pmt_sweep.specs.Flags.{FlagsKept};
 ghost use Rattle.pmt_sweep.specs.Known.{AddsOverwrittenBy, IsActAt, IsKnownAmong, IsKnownOf, IsStoreAt, IsStoreNext};
 
@@ -25,7 +25,7 @@ pub struct Fenced {
     pub without_flush: bool,
 }
 
-/// What is known of the lines of a trace after some of its events: of each line its place and row, who wrote its words, and who has flushed
+/// What is known of the lines of a trace after some of its events: of each line its slot and row, who wrote its words, and who has flushed
 /// it since its last store; of each event an entry; of each thread the flushes that wait for its fence. It keeps no event.
 #[derive(Drop)]
 pub struct Known {
@@ -68,9 +68,9 @@ impl Known {
         ensures tells { OnOk result ((T : Recording) (n : ℕ) → IsKnownOf T n self.old → IsStoreNext T n store.now → AddsOverwrittenBy T (suc n) over.old.items over.new.items) }
     {
         let line = line_of(self.format, store.addr());
-        let place = self.place_of(line)?;
+        let slot = self.slot_of(line)?;
         let bytes = bytes_of(self.format, line, store);
-        self.store_at(place, bytes, over)
+        self.store_at(slot, bytes, over)
     }
 
     /// The next event is a flush (clwb, clflushopt) of this line by the thread: whether it is redundant.
@@ -83,8 +83,8 @@ impl Known {
         ensures known { OnOk result ((T : Recording) (n : ℕ) → IsKnownOf T n self.old → IsAct T (suc n) (Flushes thread line) → IsKnownOf T (suc n) self.new) }
         ensures tells { IfOk result (λ redundant. (T : Recording) (n : ℕ) → IsKnownOf T n self.old → IsAct T (suc n) (Flushes thread line) → (redundant ≡ true) ↔ IsRedundantFlush T thread line (suc n)) }
     {
-        let place = self.place_of(line)?;
-        self.flush_at(place, thread)
+        let slot = self.slot_of(line)?;
+        self.flush_at(slot, thread)
     }
 
     /// The next event is a clflush of this line: whether it is kept, which is where it is not redundant.
@@ -98,8 +98,8 @@ impl Known {
         ensures kept { IfOk result (λ kept. (T : Recording) (n : ℕ) → IsKnownOf T n self.old → IsAct T (suc n) (Clflushes line) → (kept ≡ true) ↔ IsKept T (suc n)) }
         ensures redundant { IfOk result (λ kept. (T : Recording) (n : ℕ) → IsKnownOf T n self.old → IsAct T (suc n) (Clflushes line) → (kept ≡ false) ↔ IsRedundantClflush T line (suc n)) }
     {
-        let place = self.place_of(line)?;
-        self.clflush_at(place)
+        let slot = self.slot_of(line)?;
+        self.clflush_at(slot)
     }
 
     /// The next event is a fence by the thread: whether it is kept, and whether it comes without a flush. There is a flag for each event
@@ -139,80 +139,80 @@ impl Known {
         Ok(())
     }
 
-    // The place of the line, which it gets if it has none yet; its words are there then.
+    // The slot of the line, which it gets if it has none yet; its words are there then.
     #[inline(always)]
-    fn place_of(&mut self, line: u64) -> Result<usize, OutOfMemory>
-        ensures here { IfOk result (λ place. IsPlaceOf line place self.new.rows.places) }
-        ensures small { IfOk result (λ place. place < 2 ^ 32) }
+    fn slot_of(&mut self, line: u64) -> Result<usize, OutOfMemory>
+        ensures here { IfOk result (λ slot. IsSlotOf line slot self.new.rows.slots) }
+        ensures small { IfOk result (λ slot. slot < 2 ^ 32) }
         ensures known { OnOk result ((T : Recording) (n : ℕ) (lines : List ℕ) → IsKnownAmong T n lines self.old → IsKnownAmong T n (with_line line lines) self.new) }
     {
         let lines = self.rows.len();
-        let place = self.rows.place_of(line)?;
+        let slot = self.rows.slot_of(line)?;
         let is_new = lines < self.rows.len();
         if is_new {
             self.words.add_many(self.words_of_line)?;
         }
-        Ok(place)
+        Ok(slot)
     }
 
-    // A store to these bytes of the line at this place.
+    // A store to these bytes of the line at this slot.
     #[inline(always)]
     fn store_at(
         &mut self,
-        place: usize,
+        slot: usize,
         bytes: WordBytes,
         over: &mut Vec<Overwrite>,
     ) -> Result<(), OutOfMemory>
-        requires small { place < 2 ^ 32 }
-        requires next { (T : Recording) × (n : ℕ) × (l : ℕ) × (w : Written) × IsStoreAt T n l place bytes w self.old }
-        ensures known { OnOk result ((T : Recording) (n l : ℕ) (w : Written) → IsStoreAt T n l place bytes w self.old → IsKnownAmong T (suc n) (with_line l (lines_of (history T n))) self.new) }
-        ensures tells { OnOk result ((T : Recording) (n l : ℕ) (w : Written) → IsStoreAt T n l place bytes w self.old → AddsOverwrittenBy T (suc n) over.old.items over.new.items) }
+        requires small { slot < 2 ^ 32 }
+        requires next { (T : Recording) × (n : ℕ) × (l : ℕ) × (w : Written) × IsStoreAt T n l slot bytes w self.old }
+        ensures known { OnOk result ((T : Recording) (n l : ℕ) (w : Written) → IsStoreAt T n l slot bytes w self.old → IsKnownAmong T (suc n) (with_line l (lines_of (history T n))) self.new) }
+        ensures tells { OnOk result ((T : Recording) (n l : ℕ) (w : Written) → IsStoreAt T n l slot bytes w self.old → AddsOverwrittenBy T (suc n) over.old.items over.new.items) }
     {
         let number = self.links.len() as u32;
-        let row = self.rows.row(place);
-        let word = place * self.words_of_line + bytes.word;
+        let row = self.rows.row(slot);
+        let word = slot * self.words_of_line + bytes.word;
         let WordBytes { word: _, low, high } = bytes;
         self.words
             .store(word, low, high, number, row.last_flush, over)?;
-        self.rows.store(place, number);
+        self.rows.store(slot, number);
         self.links.push(row.last_store)?;
         Ok(())
     }
 
-    // A flush by the thread of the line at this place: whether it is redundant.
+    // A flush by the thread of the line at this slot: whether it is redundant.
     #[inline(always)]
-    fn flush_at(&mut self, place: usize, thread: u8) -> Result<bool, OutOfMemory>
-        requires small { place < 2 ^ 32 }
-        requires next { (T : Recording) × (n : ℕ) × (l : ℕ) × IsActAt T n l place (Flushes thread l) self.old }
-        ensures known { OnOk result ((T : Recording) (n l : ℕ) → IsActAt T n l place (Flushes thread l) self.old → IsKnownAmong T (suc n) (with_line l (lines_of (history T n))) self.new) }
-        ensures tells { IfOk result (λ redundant. (T : Recording) (n l : ℕ) → IsActAt T n l place (Flushes thread l) self.old → (redundant ≡ true) ↔ IsRedundantFlush T thread l (suc n)) }
+    fn flush_at(&mut self, slot: usize, thread: u8) -> Result<bool, OutOfMemory>
+        requires small { slot < 2 ^ 32 }
+        requires next { (T : Recording) × (n : ℕ) × (l : ℕ) × IsActAt T n l slot (Flushes thread l) self.old }
+        ensures known { OnOk result ((T : Recording) (n l : ℕ) → IsActAt T n l slot (Flushes thread l) self.old → IsKnownAmong T (suc n) (with_line l (lines_of (history T n))) self.new) }
+        ensures tells { IfOk result (λ redundant. (T : Recording) (n l : ℕ) → IsActAt T n l slot (Flushes thread l) self.old → (redundant ≡ true) ↔ IsRedundantFlush T thread l (suc n)) }
     {
         let number = self.links.len() as u32;
-        let row = self.rows.row(place);
-        let again = self.flushed.flush(place, row.last_store, thread)?;
+        let row = self.rows.row(slot);
+        let again = self.flushed.flush(slot, row.last_store, thread)?;
         let flush = OpenFlush {
             number,
-            place: place as u32,
+            slot: slot as u32,
             store: row.last_store,
         };
         self.waiting.add(thread, flush)?;
-        self.rows.flush(place, number);
+        self.rows.flush(slot, number);
         self.links.push(number)?;
         Ok(again || row.safe == row.last_store)
     }
 
-    // A clflush of the line at this place: whether it is kept.
+    // A clflush of the line at this slot: whether it is kept.
     #[inline(always)]
-    fn clflush_at(&mut self, place: usize) -> Result<bool, OutOfMemory>
-        requires { (T : Recording) × (n : ℕ) × (l : ℕ) × IsActAt T n l place (Clflushes l) self.old }
-        ensures known { OnOk result ((T : Recording) (n l : ℕ) → IsActAt T n l place (Clflushes l) self.old → IsKnownAmong T (suc n) (with_line l (lines_of (history T n))) self.new) }
-        ensures kept { IfOk result (λ kept. (T : Recording) (n l : ℕ) → IsActAt T n l place (Clflushes l) self.old → (kept ≡ true) ↔ IsKept T (suc n)) }
-        ensures redundant { IfOk result (λ kept. (T : Recording) (n l : ℕ) → IsActAt T n l place (Clflushes l) self.old → (kept ≡ false) ↔ IsRedundantClflush T l (suc n)) }
+    fn clflush_at(&mut self, slot: usize) -> Result<bool, OutOfMemory>
+        requires { (T : Recording) × (n : ℕ) × (l : ℕ) × IsActAt T n l slot (Clflushes l) self.old }
+        ensures known { OnOk result ((T : Recording) (n l : ℕ) → IsActAt T n l slot (Clflushes l) self.old → IsKnownAmong T (suc n) (with_line l (lines_of (history T n))) self.new) }
+        ensures kept { IfOk result (λ kept. (T : Recording) (n l : ℕ) → IsActAt T n l slot (Clflushes l) self.old → (kept ≡ true) ↔ IsKept T (suc n)) }
+        ensures redundant { IfOk result (λ kept. (T : Recording) (n l : ℕ) → IsActAt T n l slot (Clflushes l) self.old → (kept ≡ false) ↔ IsRedundantClflush T l (suc n)) }
     {
         let number = self.links.len() as u32;
-        let row = self.rows.row(place);
+        let row = self.rows.row(slot);
         self.links.raise(row.last_store, row.safe, number);
-        self.rows.clflush(place, number);
+        self.rows.clflush(slot, number);
         self.links.push(number)?;
         Ok(row.safe < row.last_store)
     }

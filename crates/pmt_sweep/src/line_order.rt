@@ -33,14 +33,14 @@ pub(crate) fn latest_of(known: &Known, lines: &Spanned, second: &Spanned) -> Lat
     latest
 }
 
-// One more line, if it has a place.
+// One more line, if it has a slot.
 #[inline(always)]
 fn add_placed(latest: &mut Latest, known: &Known, lines: &Spanned, line: u64)
     requires { (T : Recording) × (n : ℕ) × (A : Span) × IsLineOf T n A lines.now line known.now }
     ensures { (T : Recording) (n : ℕ) (A : Span) → IsLineOf T n A lines.now line known.now → AreSafeFromBelow T n known.now.links A line latest.old → AreSafeFromBelow T n known.now.links A (line + 1) latest.new }
 {
-    if let Some(place) = known.find(line) {
-        add_line(latest, known, lines, &Placed { line, place });
+    if let Some(slot) = known.find(line) {
+        add_line(latest, known, lines, &Placed { line, slot });
     }
 }
 
@@ -50,7 +50,7 @@ fn add_line(latest: &mut Latest, known: &Known, lines: &Spanned, at: &Placed)
     requires { (T : Recording) × (n : ℕ) × (A : Span) × IsAtLine T n A lines.now at.now known.now }
     ensures { (T : Recording) (n : ℕ) (A : Span) → IsAtLine T n A lines.now at.now known.now → AreSafeFromBelow T n known.now.links A at.now.line latest.old → AreSafeFromBelow T n known.now.links A (at.now.line + 1) latest.new }
 {
-    let row = known.row(at.place);
+    let row = known.row(at.slot);
     let newest = newest_in(known, lines, at, row.last_store);
     if newest > 0 {
         latest.add(at.line, safe_from(known, row.safe, newest));
@@ -68,7 +68,7 @@ fn newest_in(known: &Known, lines: &Spanned, at: &Placed, last_store: u32) -> u3
         return last_store;
     }
     let bytes = lines.bytes(at.line);
-    known.newest(at.place, bytes.low, bytes.high)
+    known.newest(at.slot, bytes.low, bytes.high)
 }
 
 // The place from which this store is safe, to a line of which that one is the last safe one: `u32::MAX` where it is not.
@@ -111,21 +111,21 @@ fn oldest_in(known: &Known, oldest: &mut OldestStores, lines: &Spanned, at: &Pla
 {
     let bytes = lines.bytes(at.line);
     if (bytes.high - bytes.low) as u64 == known.format().line_size() {
-        return oldest.of(known, at.place);
+        return oldest.of(known, at.slot);
     }
-    known.oldest(at.place, bytes.low, bytes.high)
+    known.oldest(at.slot, bytes.low, bytes.high)
 }
 
 // Whether in this line no last store to a byte of the range comes after this store.
 #[inline(always)]
 fn is_line_before(known: &Known, lines: &Spanned, at: &Placed, store: u32) -> bool
-    requires small { at.now.place < 2 ^ 32 }
-    requires line { (T : Recording) × (n : ℕ) × (A : Span) × IsLineAt T n at.now.line at.now.place known.now × IsSpanned T.format A lines.now }
-    ensures { (T : Recording) (n : ℕ) (A : Span) → IsLineAt T n at.now.line at.now.place known.now → IsSpanned T.format A lines.now → (result ≡ true) ↔ IsLineBefore T n A at.now.line store }
+    requires small { at.now.slot < 2 ^ 32 }
+    requires line { (T : Recording) × (n : ℕ) × (A : Span) × IsLineAt T n at.now.line at.now.slot known.now × IsSpanned T.format A lines.now }
+    ensures { (T : Recording) (n : ℕ) (A : Span) → IsLineAt T n at.now.line at.now.slot known.now → IsSpanned T.format A lines.now → (result ≡ true) ↔ IsLineBefore T n A at.now.line store }
 {
     if !lines.meets(at.line) {
         return true;
     }
     let bytes = lines.bytes(at.line);
-    known.newest(at.place, bytes.low, bytes.high) <= store
+    known.newest(at.slot, bytes.low, bytes.high) <= store
 }

@@ -1,4 +1,4 @@
-//! The words of lines, by the places of the lines.
+//! The words of lines, by the slots of the lines.
 ghost use Rattle.std.specs.Prelude.{◌≡◌, ◌+◌, ◌*◌, ◌<◌, ◌≤◌};
 ghost use Rattle.pmt_model.specs.Values.{line_of as line_in};
 ghost use Rattle.pmt_tables.specs.Written.{WritesIn};

@@ -16,8 +16,8 @@ pub(crate) fn mark_lost(rows: &Rows, entries: &mut [u32]) -> u32
     ensures after { (T : Recording) → AreEndsOf T (length T.events) rows.now entries.old → AreLostAfter T result }
 {
     let mut before = u32::MAX;
-    for place in 0..rows.len() {
-        before = before.min(mark_line(rows.row(place), entries));
+    for slot in 0..rows.len() {
+        before = before.min(mark_line(rows.row(slot), entries));
     }
     before
 }

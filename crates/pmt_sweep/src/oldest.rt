@@ -20,7 +20,7 @@ const NONE: OldestStore = OldestStore {
     oldest: 0,
 };
 
-/// Of lines, by their places, the oldest of the last stores to all their bytes: found at most once after each store to a line. It takes 8
+/// Of lines, by their slots, the oldest of the last stores to all their bytes: found at most once after each store to a line. It takes 8
 /// bytes for each line up to the last one of which it was asked.
 #[derive(Drop)]
 pub struct OldestStores {
@@ -37,34 +37,34 @@ impl OldestStores {
         }
     }
 
-    // The oldest of the last stores to the bytes of the line at this place: its number, or 0 where there is none.
+    // The oldest of the last stores to the bytes of the line at this slot: its number, or 0 where there is none.
     #[inline(always)]
-    pub(crate) fn of(&mut self, known: &Known, place: usize) -> u32
-        requires small { place < 2 ^ 32 }
-        requires line { (T : Recording) × (n : ℕ) × (l : ℕ) × IsLineAt T n l place known.now }
-        ensures oldest { (T : Recording) (n l : ℕ) → IsLineAt T n l place known.now → AreOldestOf T n self.old.found.items → IsLeastAbove 0 0 T.format.line_size (last_in_line T n l) result }
-        ensures kept { (T : Recording) (n l : ℕ) → IsLineAt T n l place known.now → AreOldestOf T n self.old.found.items → AreOldestOf T n self.new.found.items }
+    pub(crate) fn of(&mut self, known: &Known, slot: usize) -> u32
+        requires small { slot < 2 ^ 32 }
+        requires line { (T : Recording) × (n : ℕ) × (l : ℕ) × IsLineAt T n l slot known.now }
+        ensures oldest { (T : Recording) (n l : ℕ) → IsLineAt T n l slot known.now → AreOldestOf T n self.old.found.items → IsLeastAbove 0 0 T.format.line_size (last_in_line T n l) result }
+        ensures kept { (T : Recording) (n l : ℕ) → IsLineAt T n l slot known.now → AreOldestOf T n self.old.found.items → AreOldestOf T n self.new.found.items }
     {
-        let last_store = known.row(place).last_store;
-        if let Some(found) = self.found.get(place) {
+        let last_store = known.row(slot).last_store;
+        if let Some(found) = self.found.get(slot) {
             if found.last_store == last_store {
                 return found.oldest;
             }
         }
-        let oldest = known.oldest_of_line(place);
-        self.keep(place, OldestStore { last_store, oldest });
+        let oldest = known.oldest_of_line(slot);
+        self.keep(slot, OldestStore { last_store, oldest });
         oldest
     }
 
-    // Keeps what was found of the line at this place. Where memory is refused it is found again.
-    fn keep(&mut self, place: usize, found: OldestStore)
-        requires { place < 2 ^ 32 }
-        ensures few { length self.new.found.items ≤ max (length self.old.found.items) (place + 1) }
-        ensures each { (p : ℕ) → IsKeptAt place found self.old.found.items self.new.found.items p }
+    // Keeps what was found of the line at this slot. Where memory is refused it is found again.
+    fn keep(&mut self, slot: usize, found: OldestStore)
+        requires { slot < 2 ^ 32 }
+        ensures few { length self.new.found.items ≤ max (length self.old.found.items) (slot + 1) }
+        ensures each { (p : ℕ) → IsKeptAt slot found self.old.found.items self.new.found.items p }
     {
-        if self.found.len() <= place && self.found.resize(place + 1, NONE).is_err() {
+        if self.found.len() <= slot && self.found.resize(slot + 1, NONE).is_err() {
             return;
         }
-        self.found[place] = found;
+        self.found[slot] = found;
     }
 }

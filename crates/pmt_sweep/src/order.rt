@@ -55,15 +55,8 @@ fn is_placed_ordered(
     ensures kept { (T : Recording) (n : ℕ) (B : Span) → IsLineOf T n B second.now line known.now → AreOldestOf T n oldest.old.found.items → AreOldestOf T n oldest.new.found.items }
 {
     match known.find(line) {
-        Some(place) => {
-            is_line_ordered(
-                known,
-                oldest,
-                first,
-                latest,
-                second,
-                &Placed { line, place },
-            )
+        Some(slot) => {
+            is_line_ordered(known, oldest, first, latest, second, &Placed { line, slot })
         }
         None => true,
     }

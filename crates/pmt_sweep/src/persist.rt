@@ -35,21 +35,21 @@ fn is_placed_persisted(known: &Known, lines: &Spanned, line: u64) -> bool
     ensures { (T : Recording) (n : ℕ) (A : Span) → IsLineOf T n A lines.now line known.now → (result ≡ true) ↔ IsLineSafe T n A line }
 {
     match known.find(line) {
-        Some(place) => is_line_persisted(known, lines, &Placed { line, place }),
+        Some(slot) => is_line_persisted(known, lines, &Placed { line, slot }),
         None => true,
     }
 }
 
-// The same of a line that has a place.
+// The same of a line that has a slot.
 #[inline(always)]
 fn is_line_persisted(known: &Known, lines: &Spanned, at: &Placed) -> bool
     requires { (T : Recording) × (n : ℕ) × (A : Span) × IsAtLine T n A lines.now at.now known.now }
     ensures { (T : Recording) (n : ℕ) (A : Span) → IsAtLine T n A lines.now at.now known.now → (result ≡ true) ↔ IsLineSafe T n A at.now.line }
 {
-    let row = known.row(at.place);
+    let row = known.row(at.slot);
     if row.last_store <= row.safe {
         return true;
     }
     let bytes = lines.bytes(at.line);
-    known.newest(at.place, bytes.low, bytes.high) <= row.safe
+    known.newest(at.slot, bytes.low, bytes.high) <= row.safe
 }

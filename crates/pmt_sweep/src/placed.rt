@@ -1,8 +1,8 @@
-//! The lines of a range that have a place.
+//! The lines of a range that have a slot.
 
-// A line and its place.
+// A line and its slot.
 #[derive(Clone, Copy)]
 pub(crate) struct Placed {
     pub(crate) line: u64,
-    pub(crate) place: usize,
+    pub(crate) slot: usize,
 }

@@ -8,7 +8,7 @@ use Rattle.std.proofs.lemmas.Grind.{get_or_default_zero}
 use Rattle.std.proofs.lemmas.List.{get_or-set_same, get_or-set_other, length-set}
 use Rattle.std.proofs.lemmas.Map.Keys.{IsDistinct-push}
 use Rattle.std.proofs.lemmas.Option.{same_Some}
-use Rattle.pmt_tables.specs.Places.{AreIndexed, IsPlaceOf, IsReached, cell_at}
+use Rattle.pmt_tables.specs.Slots.{AreIndexed, IsSlotOf, IsReached, cell_at}
 use Rattle.pmt_tables.proofs.ListLemmas.{push-cases}
 
 -- the entry to which this look for a line comes
@@ -20,25 +20,25 @@ read-is cells cell entry within read = sym (read ∙ get_or_default_zero cells c
 
 -- these looks come to entries, and to none of the line
 abbrev pub ArePast : List ℕ → List ℕ → ℕ → ℕ → Type 0
-ArePast lines cells line look = (k : ℕ) → k < look → (seen_at cells line k ≢ 0) × (IsPlaceOf line (seen_at cells line k - 1) lines → ⊥)
+ArePast lines cells line look = (k : ℕ) → k < look → (seen_at cells line k ≢ 0) × (IsSlotOf line (seen_at cells line k - 1) lines → ⊥)
 
-pub past-next : (lines cells : List ℕ) (line look entry : ℕ) → ArePast lines cells line look → seen_at cells line look ≡ entry → entry ≢ 0 → (IsPlaceOf line (entry - 1) lines → ⊥) → ArePast lines cells line (look + 1)
+pub past-next : (lines cells : List ℕ) (line look entry : ℕ) → ArePast lines cells line look → seen_at cells line look ≡ entry → entry ≢ 0 → (IsSlotOf line (entry - 1) lines → ⊥) → ArePast lines cells line (look + 1)
 past-next lines cells line look entry past is taken other k less = elim (cases_lt k look) [
   | inl before ↦ past k before
   | inr last ↦
       let e : look ≡ k = omega (arith, less, last) in
-      subst (λ j. (seen_at cells line j ≢ 0) × (IsPlaceOf line (seen_at cells line j - 1) lines → ⊥)) e (subst (λ n. (n ≢ 0) × (IsPlaceOf line (n - 1) lines → ⊥)) (sym is) (taken, other))
+      subst (λ j. (seen_at cells line j ≢ 0) × (IsSlotOf line (seen_at cells line j - 1) lines → ⊥)) e (subst (λ n. (n ≢ 0) × (IsSlotOf line (n - 1) lines → ⊥)) (sym is) (taken, other))
 ]
 
--- a line without an entry before the first free cell has no place
-pub none-past : (lines cells : List ℕ) (line look : ℕ) → AreIndexed lines cells → ArePast lines cells line look → (seen_at cells line look ≡ 0) ⊎ (length cells ≤ look) → (place : ℕ) → IsPlaceOf line place lines → ⊥
-none-past lines cells line look are past end place at = go (are.1 place line at)
+-- a line without an entry before the first free cell has no slot
+pub none-past : (lines cells : List ℕ) (line look : ℕ) → AreIndexed lines cells → ArePast lines cells line look → (seen_at cells line look ≡ 0) ⊎ (length cells ≤ look) → (slot : ℕ) → IsSlotOf line slot lines → ⊥
+none-past lines cells line look are past end slot at = go (are.1 slot line at)
   where
-    go : IsReached cells line (suc place) → ⊥
+    go : IsReached cells line (suc slot) → ⊥
     go r = elim (cases_lt r.0 look) [
       | inl before ↦
-          let e : seen_at cells line r.0 - 1 ≡ place = omega (arith, r.2) in
-          (past r.0 before).1 (subst (λ n. IsPlaceOf line n lines) (sym e) at)
+          let e : seen_at cells line r.0 - 1 ≡ slot = omega (arith, r.2) in
+          (past r.0 before).1 (subst (λ n. IsSlotOf line n lines) (sym e) at)
       | inr after ↦ elim end [
         | inl free ↦ elim (cases_lt look r.0) [
           | inl less ↦ r.3 look less free
@@ -75,24 +75,24 @@ module _ (cells : List ℕ) (cell entry : ℕ) (within : cell < length cells) (f
 
 -- an entry of one line more, where all others are kept
 module _ (cells new : List ℕ) (others : (l e : ℕ) → 0 < e → IsReached cells l e → IsReached new l e) where
-  pub indexed-next : (lines : List ℕ) (place line : ℕ) → IsPlaceOf line place lines → ((p l : ℕ) → p < place → IsPlaceOf l p lines → IsReached cells l (suc p)) → IsReached new line (suc place) →
-      (p l : ℕ) → p < place + 1 → IsPlaceOf l p lines → IsReached new l (suc p)
-  indexed-next lines place line is all here p l less at = elim (cases_lt p place) [
+  pub indexed-next : (lines : List ℕ) (slot line : ℕ) → IsSlotOf line slot lines → ((p l : ℕ) → p < slot → IsSlotOf l p lines → IsReached cells l (suc p)) → IsReached new line (suc slot) →
+      (p l : ℕ) → p < slot + 1 → IsSlotOf l p lines → IsReached new l (suc p)
+  indexed-next lines slot line is all here p l less at = elim (cases_lt p slot) [
     | inl before ↦ others l (suc p) (omega arith) (all p l before at)
     | inr last ↦
-        let e : place ≡ p = omega (arith, less, last) in
+        let e : slot ≡ p = omega (arith, less, last) in
         let same : line ≡ l = same_Some line l (sym is ∙ ap (slice_get lines) e ∙ at) in
         subst (λ k. IsReached new k (suc p)) same (subst (λ q. IsReached new line (suc q)) e here)
   ]
 
   pub indexed-push : (lines : List ℕ) (line : ℕ) → AreIndexed lines cells → list_any (nat_eq line) lines ≡ false → IsReached new line (suc (length lines)) → AreIndexed (lines ++ line ∷ []) new
-  indexed-push lines line are absent here = (IsDistinct-push nat_eq_equiv lines line are.0 absent, λ place l at. go place l (push-cases lines line l place at))
+  indexed-push lines line are absent here = (IsDistinct-push nat_eq_equiv lines line are.0 absent, λ slot l at. go slot l (push-cases lines line l slot at))
     where
-      go : (place l : ℕ) → (slice_get lines place ≡ Some l) ⊎ ((place ≡ length lines) × (line ≡ l)) → IsReached new l (suc place)
-      go place l (inl before) = others l (suc place) (omega arith) (are.1 place l before)
-      go place l (inr last) = subst (λ k. IsReached new k (suc place)) last.1 (subst (λ p. IsReached new line (suc p)) (sym last.0) here)
+      go : (slot l : ℕ) → (slice_get lines slot ≡ Some l) ⊎ ((slot ≡ length lines) × (line ≡ l)) → IsReached new l (suc slot)
+      go slot l (inl before) = others l (suc slot) (omega arith) (are.1 slot l before)
+      go slot l (inr last) = subst (λ k. IsReached new k (suc slot)) last.1 (subst (λ p. IsReached new line (suc p)) (sym last.0) here)
 
 -- before the first line
 pub indexed-none : (cells : List ℕ) → AreIndexed [] cells
 unfolding IsDistinct
-indexed-none cells = (tt, λ place l at. absurd (cc))
+indexed-none cells = (tt, λ slot l at. absurd (cc))

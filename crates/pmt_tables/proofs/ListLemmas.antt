@@ -1,4 +1,4 @@
--- Elements of a list by their places.
+-- Elements of a list by their slots.
 use Rattle.std.proofs.Common.{◌≡◌, ◌≢◌, ℕ, zero, suc, ◌<◌, ◌⊎◌, inl, inr, Bool, true, false, List, [], ◌∷◌, ◌++◌, length, set, map, Some, None, refl, sym, ap, ◌∙◌, arith}
 use Rattle.std.specs.Prelude.{◌==◌, ◌||◌, nat_eq, slice_get}
 use Rattle.std.specs.List.{list_any, IsDistinct}
@@ -7,11 +7,11 @@ use Rattle.std.proofs.lemmas.Bool.Decides.{Decides-eqb}
 use Rattle.std.proofs.lemmas.Map.Made.{AllPairs-from_IsDistinct}
 use Rattle.std.proofs.lemmas.Option.{get_or_from_slice_get, slice_get_within, same_Some}
 use Rattle.pmt_model.specs.Traces.{has_line}
-use Rattle.pmt_tables.specs.Places.{IsFound}
+use Rattle.pmt_tables.specs.Slots.{IsFound}
 
--- no element of a list without doubles has two places
-pub one-place : (xs : List ℕ) (x p q : ℕ) → IsDistinct nat_eq xs → slice_get xs p ≡ Some x → slice_get xs q ≡ Some x → p ≡ q
-one-place xs x p q distinct at_p at_q = go (cases_order p q)
+-- no element of a list without doubles has two slots
+pub one-slot : (xs : List ℕ) (x p q : ℕ) → IsDistinct nat_eq xs → slice_get xs p ≡ Some x → slice_get xs q ≡ Some x → p ≡ q
+one-slot xs x p q distinct at_p at_q = go (cases_order p q)
   where
     differ : (i j : ℕ) → i < j → slice_get xs i ≡ Some x → slice_get xs j ≡ Some x → ⊥
     differ i j before at_i at_j =
@@ -22,7 +22,7 @@ one-place xs x p q distinct at_p at_q = go (cases_order p q)
     go (inr (inl before)) = absurd (differ p q before at_p at_q)
     go (inr (inr after)) = absurd (differ q p after at_q at_p)
 
--- an element that has a place is one of the list
+-- an element that has a slot is one of the list
 pub among : (xs : List ℕ) (x p : ℕ) → slice_get xs p ≡ Some x → list_any (nat_eq x) xs ≡ true
 among [] x p at = absurd (cc)
 among (y ∷ xs) x zero at = let e : nat_eq x y ≡ true = eq-eqb x y (sym (same_Some y x at)) in rw e refl
@@ -32,9 +32,9 @@ among (y ∷ xs) x (suc p) at = go (nat_eq x y) (among xs x p at)
     go true later = refl
     go false later = later
 
-pub list_any-place : (xs : List ℕ) (x : ℕ) → list_any (nat_eq x) xs ≡ true → (p : ℕ) × (slice_get xs p ≡ Some x)
-list_any-place [] x had = let never : false ≡ true = had in absurd (cc)
-list_any-place (y ∷ xs) x had = go (nat_eq x y) refl had (list_any-place xs x)
+pub list_any-slot : (xs : List ℕ) (x : ℕ) → list_any (nat_eq x) xs ≡ true → (p : ℕ) × (slice_get xs p ≡ Some x)
+list_any-slot [] x had = let never : false ≡ true = had in absurd (cc)
+list_any-slot (y ∷ xs) x had = go (nat_eq x y) refl had (list_any-slot xs x)
   where
     go : (b : Bool) → nat_eq x y ≡ b → (b || list_any (nat_eq x) xs) ≡ true → (list_any (nat_eq x) xs ≡ true → (p : ℕ) × (slice_get xs p ≡ Some x)) → (p : ℕ) × (slice_get (y ∷ xs) p ≡ Some x)
     go true same had rest = (zero, ap Some (sym (eqb-true x y same)))
@@ -45,7 +45,7 @@ pub not-among : (lines : List ℕ) (l : ℕ) → IsFound l lines None → list_a
 not-among lines l none = go (list_any (nat_eq l) lines) refl
   where
     go : (b : Bool) → list_any (nat_eq l) lines ≡ b → b ≡ false
-    go true had = let there = list_any-place lines l had in absurd (none there.0 there.1)
+    go true had = let there = list_any-slot lines l had in absurd (none there.0 there.1)
     go false absent = refl
 
 -- one more element
@@ -76,7 +76,7 @@ map-same f g [] same = refl
 map-same f g (k ∷ ks) same = ap (λ x. x ∷ map g ks) (same 0 k refl) ∙ ap (λ xs. f k ∷ xs) (map-same f g ks (λ p j at. same (suc p) j at))
 
 pub map-set_one : {X : Type 0} (f g : ℕ → X) (ks : List ℕ) (l p : ℕ) → IsDistinct nat_eq ks → slice_get ks p ≡ Some l → ((k : ℕ) → k ≢ l → g k ≡ f k) → map g ks ≡ set (map f ks) p (g l)
-map-set_one f g ks l p once at other = go ks p at (λ q there. one-place ks l q p once there at)
+map-set_one f g ks l p once at other = go ks p at (λ q there. one-slot ks l q p once there at)
   where
     go : (js : List ℕ) (p : ℕ) → slice_get js p ≡ Some l → ((q : ℕ) → slice_get js q ≡ Some l → q ≡ p) → map g js ≡ set (map f js) p (g l)
     go [] p at alone = absurd (cc)

@@ -39,8 +39,8 @@ module _ (words : List ℕ) (tables : List Table) (are : AreWords words tables) 
 
     added-new : (i : ℕ) → length words ≤ i → i < length (words ++ replicate many w) → slice_index (words ++ replicate many w) i ≡ w
     added-new i last within =
-        let place : i - length words < many = omega (arith, last, within, length-append words (replicate many w), length-replicate many w) in
-        get_or-append_right words (replicate many w) (length words) i 0 refl last ∙ get_or-replicate many (i - length words) w 0 place
+        let slot : i - length words < many = omega (arith, last, within, length-append words (replicate many w), length-replicate many w) in
+        get_or-append_right words (replicate many w) (length words) i 0 refl last ∙ get_or-replicate many (i - length words) w 0 slot
 
     pub added-are : AreWords (words ++ replicate many w) tables
     added-are = record {
@@ -170,8 +170,8 @@ module _ (words : List ℕ) (tables : List Table) (are : AreWords words tables) 
     pub split-last : (i k : ℕ) → i < length words → k < 8 → last_in (slice_set words word (first_table + length tables)) (tables ++ table ∷ []) i k ≡ last_in words tables i k
     split-last i k within small = elim (cases_eq i word) [
       | inl same ↦
-          let place : first_table + length tables - first_table ≡ length tables = omega arith in
-          let at : get_or (tables ++ table ∷ []) (first_table + length tables - first_table) no_table ≡ table = get_or_push tables table no_table (first_table + length tables - first_table) (sym place) in
+          let slot : first_table + length tables - first_table ≡ length tables = omega arith in
+          let at : get_or (tables ++ table ∷ []) (first_table + length tables - first_table) no_table ≡ table = get_or_push tables table no_table (first_table + length tables - first_table) (sym slot) in
           let old : last_in words tables i k ≡ last_by (slice_index words word) k = ap (λ j. last_of tables (slice_index words j) k) same ∙ last-whole tables (slice_index words word) k none in
           ap (λ x. last_of (tables ++ table ∷ []) x k) (split-at i same) ∙ last-table (tables ++ table ∷ []) (first_table + length tables) k (omega arith)
           ∙ ap (λ (t : Table). slice_index t.numbers k) at ∙ each k small ∙ sym old
@@ -202,8 +202,8 @@ module _ (words : List ℕ) (tables : List Table) (are : AreWords words tables) 
     write-last i k within = elim (cases_eq i word) [
       | inl same ↦
           let e = eq-eqb i word same in
-          let place : first_table + at - first_table ≡ at = omega arith in
-          let read : get_or (slice_set tables at table) (first_table + at - first_table) no_table ≡ table = ap (λ p. get_or (slice_set tables at table) p no_table) place ∙ get_or-set_same tables at table no_table table-within in
+          let slot : first_table + at - first_table ≡ at = omega arith in
+          let read : get_or (slice_set tables at table) (first_table + at - first_table) no_table ≡ table = ap (λ p. get_or (slice_set tables at table) p no_table) slot ∙ get_or-set_same tables at table no_table table-within in
           ap (λ j. last_of (slice_set tables at table) (slice_index words j) k) same ∙ ap (λ x. last_of (slice_set tables at table) x k) is ∙ last-table (slice_set tables at table) (first_table + at) k (omega arith)
           ∙ ap (λ (t : Table). slice_index t.numbers k) read ∙ ap (λ b. if b then slice_index table.numbers k else last_in words tables i k) (sym e)
       | inr apart_ ↦ rest (slice_index words i) (λ more same. apart_ (are.apart i word within here more (same ∙ sym is))) ∙ ap (λ b. if b then slice_index table.numbers k else last_in words tables i k) (sym (ne_eqb i word apart_))
@@ -220,8 +220,8 @@ module _ (words : List ℕ) (tables : List Table) (are : AreWords words tables) 
     -- the table is the word's
     pub table-last : (x : Table) → x ≡ get_or tables at x → (k : ℕ) → slice_index x.numbers k ≡ last_in words tables word k
     table-last x read k =
-        let place : first_table + at - first_table ≡ at = omega arith in
-        let same : x ≡ get_or tables (first_table + at - first_table) no_table = read ∙ default tables at x no_table table-within ∙ ap (λ p. get_or tables p no_table) (sym place) in
+        let slot : first_table + at - first_table ≡ at = omega arith in
+        let same : x ≡ get_or tables (first_table + at - first_table) no_table = read ∙ default tables at x no_table table-within ∙ ap (λ p. get_or tables p no_table) (sym slot) in
         ap (λ (t : Table). slice_index t.numbers k) same ∙ sym (last-table tables (first_table + at) k (omega arith)) ∙ ap (λ w. last_of tables w k) (sym is)
       where
         default : (xs : List Table) (i : ℕ) (a b : Table) → i < length xs → get_or xs i a ≡ get_or xs i b

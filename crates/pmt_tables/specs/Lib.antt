@@ -3,4 +3,4 @@ pub mod Spans
 pub mod Lasts
 pub mod Packed
 pub mod Written
-pub mod Places
+pub mod Slots

@@ -16,7 +16,7 @@ high_of w = w % 16
 abbrev pub last_by : ℕ → ℕ → ℕ
 last_by w k = if is_in (low_of w) (high_of w) k then number_of w else 0
 
--- A number from here on is this and the place of a table.
+-- A number from here on is this and the slot of a table.
 abbrev pub first_table : ℕ
 first_table = 2 ^ 31
 

@@ -1,4 +1,4 @@
-//! The words of all lines, each by its place.
+//! The words of all lines, each by its slot.
 ghost use Rattle.std.specs.Prelude.{◌≡◌, ℕ, [], ◌+◌, ◌<◌, ◌≤◌, ◌^◌, if◌then◌else◌, length, slice_index, nat_lt, IfOk, OnOk, OnErr};
 ghost use Rattle.pmt_tables.specs.Lasts.{AddsOverwritten, IsLeastAbove, IsNewest, last_at, with_store};
 ghost use Rattle.pmt_tables.specs.Packed.{AreWords, first_table, last_in};

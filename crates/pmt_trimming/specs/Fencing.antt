@@ -28,7 +28,7 @@ pub record AreAtFence (T : Recording) (n : ℕ) (lines : List ℕ) (settled : �
   pub fence : IsAct T (suc n) (Fences thread)
   pub known : IsKnownWith lines (history T n) (λ l. safe_store_at T l n) rows
   pub waiting : map (waits lines) flushes ≡ waiting thread (history T n)
-  pub within : All (λ f. f.place < length lines) flushes
+  pub within : All (λ f. f.slot < length lines) flushes
   pub marked : All (λ k. (settled < k) × (k ≤ settled + length list)) (map number_of flushes)
   pub decided : All (λ k. IsDecided T k) (map number_of flushes)
   pub marks : AreMarksBut T settled list flushes

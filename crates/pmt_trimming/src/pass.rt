@@ -138,8 +138,8 @@ impl Pass {
         ensures size { length self.new.marks.items ≡ length self.old.marks.items }
     {
         let number = self.next_number();
-        let place = self.rows.place_of(line)?;
-        self.rows.store(place, number);
+        let slot = self.rows.slot_of(line)?;
+        self.rows.store(slot, number);
         Ok(Mark::Kept)
     }
 
@@ -153,14 +153,14 @@ impl Pass {
         ensures size { length self.new.marks.items ≡ length self.old.marks.items }
     {
         let number = self.next_number();
-        let place = self.rows.place_of(line)?;
+        let slot = self.rows.slot_of(line)?;
         let flush = OpenFlush {
             number,
-            place: place as u32,
-            store: self.rows.row(place).last_store,
+            slot: slot as u32,
+            store: self.rows.row(slot).last_store,
         };
         self.waiting.add(thread, flush)?;
-        self.rows.flush(place, number);
+        self.rows.flush(slot, number);
         Ok(Mark::Open)
     }
 
@@ -173,9 +173,9 @@ impl Pass {
         ensures size { length self.new.marks.items ≡ length self.old.marks.items }
     {
         let number = self.next_number();
-        let place = self.rows.place_of(line)?;
-        let row = self.rows.row(place);
-        self.rows.clflush(place, number);
+        let slot = self.rows.slot_of(line)?;
+        let row = self.rows.row(slot);
+        self.rows.clflush(slot, number);
         Ok(mark_of(row.safe < row.last_store))
     }
 
@@ -286,7 +286,7 @@ fn decide(rows: &mut Rows, marks: &mut Marks, settled: u64, flushes: &[OpenFlush
     let mut rises = false;
     for i in (0..flushes.len()).rev() {
         let flush = flushes[i];
-        let safe = rows.raise(flush.place as usize, flush.store);
+        let safe = rows.raise(flush.slot as usize, flush.store);
         let raises = safe < flush.store;
         let index = (flush.number as u64 - settled - 1) as usize;
         marks.put(index, mark_of(raises));

@@ -9,7 +9,7 @@ use Rattle.pmt_rows.proofs.FencingLemmas.{line_in, raising-next}
 use Rattle.pmt_book.proofs.live.raise_all.Goals as goal
 
 abbrev none : OpenFlush
-none = record { number = 0; place = 0; store = 0 }
+none = record { number = 0; slot = 0; store = 0 }
 
 pub loop-index-init : goal.loop-index-init
 loop-index-init c = λ lines last safe flush inside is.
@@ -29,6 +29,6 @@ loop-index-preserved c = λ lines last safe flush inside is.
     let i = c.loop-index.index in
     let within : i - 1 < length xs = omega arith in
     let x = get_or xs (i - 1) none in
-    let at = slice_get-get_or lines x.place 0 (inside (i - 1) none within) in
+    let at = slice_get-get_or lines x.slot 0 (inside (i - 1) none within) in
     raising-next lines last safe flush c.raise.new.self xs i x (omega arith) (omega arith) (get_or_default xs (i - 1) none x within)
     (c.raise.ensures.raised lines last (raise_all (waits_all lines (drop i xs)) safe) flush (line_in lines x) at (c.loop-index.invariant lines last safe flush inside is))

@@ -3,22 +3,22 @@ use Rattle.std.proofs.lemmas.Grind.{elements}
 use Rattle.pmt_model.specs.Values.{Layout}
 use Rattle.pmt_model.specs.Traces.{history, count_at, lines_of}
 use Rattle.pmt_model.specs.Fronts.{front_at}
-use Rattle.pmt_book.proofs.LiveLemmas.{has-place, place-in}
+use Rattle.pmt_book.proofs.LiveLemmas.{has-slot, slot-in}
 use Rattle.pmt_report.specs.Reports.{front_entry, line_entry}
 use Rattle.pmt_report.proofs.fronts.push_line.Goals as goal
 
 pub front-front-requires : goal.front-front-requires
-front-front-requires c = has-place _ _ c.args.line c.args.place _ c.requires.place c.requires.lines.1.live
+front-front-requires c = has-slot _ _ c.args.line c.args.slot _ c.requires.slot c.requires.lines.1.live
 
 pub count-count-requires : goal.count-count-requires
-count-count-requires c = has-place _ _ c.args.line c.args.place _ c.requires.place c.requires.lines.1.live
+count-count-requires c = has-slot _ _ c.args.line c.args.slot _ c.requires.slot c.requires.lines.1.live
 
 pub returns : goal.returns
 returns c = λ T known.
     let l = c.args.line in
     let n = length T.events in
     let h = history T n in
-    let at = place-in (lines_of h) h l c.args.place c.args.lines.now.live c.requires.place known.live in
+    let at = slot-in (lines_of h) h l c.args.slot c.args.lines.now.live c.requires.slot known.live in
     let size : c.line_size.result ≡ T.format.line_size = c.line_size.ensures.value ∙ ap (λ (f : Layout). f.line_size) known.format in
     let front : c.front-front.result ≡ front_at T l n = c.front-front.ensures (lines_of h) h l at known.live in
     let count : c.count-count.result ≡ count_at T l n = c.count-count.ensures (lines_of h) h l at known.live in

@@ -5,7 +5,7 @@ use Rattle.pmt_report.specs.FrontsOf.{AreLinesOf}
 use Rattle.pmt_report.specs.Reports.{line_entry}
 use Rattle.pmt_report.proofs.fronts.push_lines.Given as goal
 
-abbrev pub invariant-loop-place : goal.invariant-loop-place
-invariant-loop-place l =
+abbrev pub invariant-loop-slot : goal.invariant-loop-slot
+invariant-loop-slot l =
     (T : Recording) → AreLinesOf T l.lines →
-    l.text.items ++ flat_map (line_entry T (length T.events)) (drop l.place l.all) ≡ l.initial.text.items ++ flat_map (line_entry T (length T.events)) l.all
+    l.text.items ++ flat_map (line_entry T (length T.events)) (drop l.slot l.all) ≡ l.initial.text.items ++ flat_map (line_entry T (length T.events)) l.all

@@ -7,7 +7,7 @@ use Rattle.pmt_rows.proofs.FencingLemmas.{deciding-none, deciding-next, deciding
 use Rattle.pmt_rows.proofs.fencing.fence.Goals as goal
 
 abbrev none : OpenFlush
-none = record { number = 0; place = 0; store = 0 }
+none = record { number = 0; slot = 0; store = 0 }
 
 pub loop-index-init : goal.loop-index-init
 loop-index-init c = record {

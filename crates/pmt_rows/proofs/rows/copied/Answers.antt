@@ -2,8 +2,8 @@ use Rattle.std.proofs.Common.{List, ℕ, get_or, sym, ap, subst, ◌∙◌, arit
 use Rattle.std.proofs.lemmas.Grind.{elements}
 use Rattle.std.specs.Prelude.{nat_eq}
 use Rattle.std.specs.List.{IsDistinct}
-use Rattle.pmt_tables.specs.Places.{insert_line}
-use Rattle.pmt_rows.proofs.PlaceLemmas.{inserted-next}
+use Rattle.pmt_tables.specs.Slots.{insert_line}
+use Rattle.pmt_rows.proofs.SlotLemmas.{inserted-next}
 use Rattle.pmt_rows.proofs.rows.copied.Goals as goal
 
 pub loop-line-preserved : goal.loop-line-preserved

@@ -11,5 +11,5 @@ returns-in_ok-resize-clause-same c = grind (arith, common_steps)
 pub returns-in_ok-push-clause-many : goal.returns-in_ok-push-clause-many
 returns-in_ok-push-clause-many c = grind (arith, moves)
 
-pub returns-else-many-place-2-clause-many : goal.returns-else-many-place-2-clause-many
-returns-else-many-place-2-clause-many c = grind (arith, common_steps)
+pub returns-else-many-slot-2-clause-many : goal.returns-else-many-slot-2-clause-many
+returns-else-many-slot-2-clause-many c = grind (arith, common_steps)

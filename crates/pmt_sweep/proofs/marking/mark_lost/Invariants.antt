@@ -4,5 +4,5 @@ use Rattle.pmt_sweep.specs.Ends.{AreEndsOf}
 use Rattle.pmt_sweep.proofs.MarkedLemmas.{AreMarkedTo, AreLostAfterTo}
 use Rattle.pmt_sweep.proofs.marking.mark_lost.Given as goal
 
-abbrev pub invariant-loop-place : goal.invariant-loop-place
-invariant-loop-place l = (T : Recording) → AreEndsOf T (length T.events) l.rows l.fn.entries → AreMarkedTo T l.fn.entries l.entries l.place × AreLostAfterTo T l.place l.before
+abbrev pub invariant-loop-slot : goal.invariant-loop-slot
+invariant-loop-slot l = (T : Recording) → AreEndsOf T (length T.events) l.rows l.fn.entries → AreMarkedTo T l.fn.entries l.entries l.slot × AreLostAfterTo T l.slot l.before

@@ -15,7 +15,7 @@ use Rattle.pmt_trimming.proofs.pass.decide.Goals as goal
 
 -- What is read past the last flush.
 abbrev none : OpenFlush
-none = record { number = 0; place = 0; store = 0 }
+none = record { number = 0; slot = 0; store = 0 }
 
 pub loop-i-init : goal.loop-i-init
 loop-i-init c = record { size = refl; decides = λ T n lines at. deciding-none T n lines c.args.settled c.args.flushes.now c.args.rows.now c.args.marks.now.items at _ refl }
@@ -57,7 +57,7 @@ loop-i-preserved c = record {
       let x = get_or xs (i - 1) none in
       let within : i - 1 < length xs = omega arith in
       let so_far = c.loop-i.invariant.decides T n lines at in
-      let there = slice_get-get_or lines x.place 0 (at.within (i - 1) none within) in
+      let there = slice_get-get_or lines x.slot 0 (at.within (i - 1) none within) in
       let safe = raise_all (waits_all lines (drop i xs)) (λ l. safe_store_at T l n) in
       let raised = c.raise-safe.ensures.raised lines (λ l. last_line_store l (history T n)) safe (λ l. last_flush l (history T n)) (line_in lines x) there so_far.known in
       let was = c.raise-safe.ensures.was lines (λ l. last_line_store l (history T n)) safe (λ l. last_flush l (history T n)) (line_in lines x) there so_far.known in

@@ -15,26 +15,26 @@ invariant_of-self-in-Ok c =
     let h = whole_history T in
     let event = c.args.event in
     let line = c.line_of-line.result in
-    let placed = c.place_of.new.self in
+    let placed = c.slot_of.new.self in
     let at : line ≡ line_of T.format c.args.addr = c.line_of-line.ensures ∙ ap (λ (f : Layout). line_of f c.args.addr) c.format.ensures.value in
     let is_act = ap (λ (R : Recording). act R.format event) c.self.view_is ∙ c.requires
     ∙ ap (λ (R : Recording). Flushes event.thread (line_of R.format c.args.addr)) (sym c.self.view_is) ∙ ap (Flushes event.thread) (sym at) in
     let numbered : c.len.result + 1 ≡ suc (length h) = omega (arith, length-whole T, c.len.ensures.value) in
-    keep-event T event (Flushes event.thread line) c.push.new.trace placed.rows.places c.flush.new.self c.in-Ok.ensures.ok is_act
-    (c.in_ok-flush.ensures.live placed.rows.places h line numbered c.in_ok-place.ensures.here
-    (with-placed _ h placed (c.in_ok-place.ensures.live c.self.inside.lines.rows.places h c.self.invariant)))
+    keep-event T event (Flushes event.thread line) c.push.new.trace placed.rows.slots c.flush.new.self c.in-Ok.ensures.ok is_act
+    (c.in_ok-flush.ensures.live placed.rows.slots h line numbered c.in_ok-slot.ensures.here
+    (with-placed _ h placed (c.in_ok-slot.ensures.live c.self.inside.lines.rows.slots h c.self.invariant)))
 
 pub invariant_of-self-in-Err : goal.invariant_of-self-in-Err
 invariant_of-self-in-Err c =
     let T = c.self.inside.trace in
     let h = whole_history T in
     let line = c.line_of-line.result in
-    let placed = c.place_of.new.self in
+    let placed = c.slot_of.new.self in
     let numbered : c.len.result + 1 ≡ suc (length h) = omega (arith, length-whole T, c.len.ensures.value) in
-    let flushed = c.in_ok-flush.ensures.live placed.rows.places h line numbered c.in_ok-place.ensures.here
-    (with-placed _ h placed (c.in_ok-place.ensures.live c.self.inside.lines.rows.places h c.self.invariant)) in
-    with-placed placed.rows.places (whole_history c.push.new.trace) c.take_back.new.self
-    (subst (λ (R : Recording). IsLiveWith placed.rows.places (whole_history R) c.take_back.new.self) (sym c.in-Err.ensures.err) (c.take_back.ensures placed.rows.places h line flushed))
+    let flushed = c.in_ok-flush.ensures.live placed.rows.slots h line numbered c.in_ok-slot.ensures.here
+    (with-placed _ h placed (c.in_ok-slot.ensures.live c.self.inside.lines.rows.slots h c.self.invariant)) in
+    with-placed placed.rows.slots (whole_history c.push.new.trace) c.take_back.new.self
+    (subst (λ (R : Recording). IsLiveWith placed.rows.slots (whole_history R) c.take_back.new.self) (sym c.in-Err.ensures.err) (c.take_back.ensures placed.rows.slots h line flushed))
 
 pub format-requires : goal.format-requires
 format-requires c = omega arith
@@ -42,11 +42,11 @@ format-requires c = omega arith
 pub invariant_of-self : goal.invariant_of-self
 invariant_of-self c = grind arith
 
-pub returns-in_err-place-clause-ok : goal.returns-in_err-place-clause-ok
-returns-in_err-place-clause-ok c = grind arith
+pub returns-in_err-slot-clause-ok : goal.returns-in_err-slot-clause-ok
+returns-in_err-slot-clause-ok c = grind arith
 
-pub returns-in_err-place-clause-err : goal.returns-in_err-place-clause-err
-returns-in_err-place-clause-err c = grind arith
+pub returns-in_err-slot-clause-err : goal.returns-in_err-slot-clause-err
+returns-in_err-slot-clause-err c = grind arith
 
 pub len-requires : goal.len-requires
 len-requires c = omega arith
@@ -57,8 +57,8 @@ overflow_cast-number c = grind (arith, elements)
 pub overflow_add-number : goal.overflow_add-number
 overflow_add-number c = grind arith
 
-pub flush-requires-clause-place : goal.flush-requires-clause-place
-flush-requires-clause-place c = grind (arith, elements)
+pub flush-requires-clause-slot : goal.flush-requires-clause-slot
+flush-requires-clause-slot c = grind (arith, elements)
 
 pub flush-requires-clause-small : goal.flush-requires-clause-small
 flush-requires-clause-small c = grind (arith, elements)

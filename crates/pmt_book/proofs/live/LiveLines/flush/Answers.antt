@@ -5,7 +5,7 @@ use Rattle.pmt_book.proofs.live.LiveLines.flush.Goals as goal
 
 pub returns-clause-live : goal.returns-clause-live
 returns-clause-live c = λ lines h l numbered at is.
-    live-flush lines h c.args.self.now is c.args.thread l c.args.place (record { number = c.args.number; place = c.args.place; store = c.count.result }) _ numbered refl (c.count.ensures lines h l at is) at refl c.in_ok-add.ensures.own
+    live-flush lines h c.args.self.now is c.args.thread l c.args.slot (record { number = c.args.number; slot = c.args.slot; store = c.count.result }) _ numbered refl (c.count.ensures lines h l at is) at refl c.in_ok-add.ensures.own
     c.in_ok-add.ensures.others
 
 pub returns-in_err-add-clause-kept : goal.returns-in_err-add-clause-kept

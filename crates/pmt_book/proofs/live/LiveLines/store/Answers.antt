@@ -7,8 +7,8 @@ use Rattle.pmt_book.proofs.live.LiveLines.store.Goals as goal
 pub overflow_add-count : goal.overflow_add-count
 overflow_add-count c =
     let of = c.requires.room in
-    let l = get_or of.0 c.args.place 0 in
-    let counted = c.count-count.ensures of.0 of.1 l (row-at of.0 of.1 c.args.self.now of.3 c.args.place c.requires.place) of.3 in
+    let l = get_or of.0 c.args.slot 0 in
+    let counted = c.count-count.ensures of.0 of.1 l (row-at of.0 of.1 c.args.self.now of.3 c.args.slot c.requires.slot) of.3 in
     omega (arith, of.2, counted, count-le-length l of.1)
 
 pub returns : goal.returns

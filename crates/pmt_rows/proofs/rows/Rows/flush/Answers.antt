@@ -3,4 +3,4 @@ use Rattle.pmt_rows.proofs.RowLemmas.{known-flush}
 use Rattle.pmt_rows.proofs.rows.Rows.flush.Goals as goal
 
 pub returns : goal.returns
-returns c = λ lines last safe flush l at is. known-flush lines last safe flush c.args.self.now is l c.args.place at c.args.number c.index_mut-row.result.now _ c.index_mut-row.ensures.value refl refl
+returns c = λ lines last safe flush l at is. known-flush lines last safe flush c.args.self.now is l c.args.slot at c.args.number c.index_mut-row.result.now _ c.index_mut-row.ensures.value refl refl

@@ -13,7 +13,7 @@ pub returns-then-again-clause-known : goal.returns-then-again-clause-known
 returns-then-again-clause-known c = λ T n l it.
     let k = c.args.self.now in
     let t = c.args.thread in
-    let place = c.args.place in
+    let slot = c.args.slot in
     let lines = with_line l (lines_of (history T n)) in
     let row : c.row-row.result ≡ row_after (λ m. safe_store_at T m n) (history T n) l = c.row-row.ensures lines (λ m. last_line_store_at T m n) (λ m. safe_store_at T m n) (λ m. last_flush m (history T n)) l it.at it.known.rows in
     let marked = ap (λ (y : Row). y.last_store) row in
@@ -22,29 +22,29 @@ returns-then-again-clause-known c = λ T n l it.
       trace = it.known.trace;
       format = it.known.format;
       many = it.known.many;
-      rows = flushed-rows T n l t place lines k it.known it.is it.at c.len-number.result c.flush-2.new.self numbered (c.flush-2.ensures lines (λ m. last_line_store_at T m n) (λ m. safe_store_at T m n) (λ m. last_flush m (history T n)) l it.at it.known.rows);
-      words = flushed-words T n l t place lines k it.known it.is it.at;
-      entries = flushed-links T n l t place lines k it.known it.is it.at c.len-number.result c.push.new.self numbered c.in_ok-push.ensures.added;
-      flushed = flushed-flushed T n l t place lines k it.known it.is it.at c.row-row.result.last_store c.flush.new.self.first.items c.flush.new.self.others.lines.items marked c.in_ok-again.ensures.flushed;
-      waiting = flushed-waiting T n l t place lines k it.known it.is it.at (record { number = c.len-number.result; place = place; store = c.row-row.result.last_store }) c.add.new.self refl numbered marked c.in_ok-add.ensures.own c.in_ok-add.ensures.others;
+      rows = flushed-rows T n l t slot lines k it.known it.is it.at c.len-number.result c.flush-2.new.self numbered (c.flush-2.ensures lines (λ m. last_line_store_at T m n) (λ m. safe_store_at T m n) (λ m. last_flush m (history T n)) l it.at it.known.rows);
+      words = flushed-words T n l t slot lines k it.known it.is it.at;
+      entries = flushed-links T n l t slot lines k it.known it.is it.at c.len-number.result c.push.new.self numbered c.in_ok-push.ensures.added;
+      flushed = flushed-flushed T n l t slot lines k it.known it.is it.at c.row-row.result.last_store c.flush.new.self.first.items c.flush.new.self.others.lines.items marked c.in_ok-again.ensures.flushed;
+      waiting = flushed-waiting T n l t slot lines k it.known it.is it.at (record { number = c.len-number.result; slot = slot; store = c.row-row.result.last_store }) c.add.new.self refl numbered marked c.in_ok-add.ensures.own c.in_ok-add.ensures.others;
     }
 
 pub returns-then-again-clause-tells : goal.returns-then-again-clause-tells
 returns-then-again-clause-tells c = λ T n l it.
     let k = c.args.self.now in
     let t = c.args.thread in
-    let place = c.args.place in
+    let slot = c.args.slot in
     let lines = with_line l (lines_of (history T n)) in
     let row : c.row-row.result ≡ row_after (λ m. safe_store_at T m n) (history T n) l = c.row-row.ensures lines (λ m. last_line_store_at T m n) (λ m. safe_store_at T m n) (λ m. last_flush m (history T n)) l it.at it.known.rows in
     let marked = ap (λ (y : Row). y.last_store) row in
-    flushed-tells T n l t place lines k it.known it.is it.at c.in_ok-again.again c.in_ok-again.again c.row-row.result.safe c.row-row.result.last_store c.in_ok-again.ensures.tells (omega (arith, c.ranges.thread.fits)) (ap (λ (y : Row). y.safe) row) marked
+    flushed-tells T n l t slot lines k it.known it.is it.at c.in_ok-again.again c.in_ok-again.again c.row-row.result.safe c.row-row.result.last_store c.in_ok-again.ensures.tells (omega (arith, c.ranges.thread.fits)) (ap (λ (y : Row). y.safe) row) marked
     (c.if-again.true ∙ sym (or-left c.in_ok-again.again (c.row-row.result.safe == c.row-row.result.last_store) c.if-again.true))
 
 pub returns-else-again-clause-known : goal.returns-else-again-clause-known
 returns-else-again-clause-known c = λ T n l it.
     let k = c.args.self.now in
     let t = c.args.thread in
-    let place = c.args.place in
+    let slot = c.args.slot in
     let lines = with_line l (lines_of (history T n)) in
     let row : c.row-row.result ≡ row_after (λ m. safe_store_at T m n) (history T n) l = c.row-row.ensures lines (λ m. last_line_store_at T m n) (λ m. safe_store_at T m n) (λ m. last_flush m (history T n)) l it.at it.known.rows in
     let marked = ap (λ (y : Row). y.last_store) row in
@@ -53,22 +53,22 @@ returns-else-again-clause-known c = λ T n l it.
       trace = it.known.trace;
       format = it.known.format;
       many = it.known.many;
-      rows = flushed-rows T n l t place lines k it.known it.is it.at c.len-number.result c.flush-2.new.self numbered (c.flush-2.ensures lines (λ m. last_line_store_at T m n) (λ m. safe_store_at T m n) (λ m. last_flush m (history T n)) l it.at it.known.rows);
-      words = flushed-words T n l t place lines k it.known it.is it.at;
-      entries = flushed-links T n l t place lines k it.known it.is it.at c.len-number.result c.push.new.self numbered c.in_ok-push.ensures.added;
-      flushed = flushed-flushed T n l t place lines k it.known it.is it.at c.row-row.result.last_store c.flush.new.self.first.items c.flush.new.self.others.lines.items marked c.in_ok-again.ensures.flushed;
-      waiting = flushed-waiting T n l t place lines k it.known it.is it.at (record { number = c.len-number.result; place = place; store = c.row-row.result.last_store }) c.add.new.self refl numbered marked c.in_ok-add.ensures.own c.in_ok-add.ensures.others;
+      rows = flushed-rows T n l t slot lines k it.known it.is it.at c.len-number.result c.flush-2.new.self numbered (c.flush-2.ensures lines (λ m. last_line_store_at T m n) (λ m. safe_store_at T m n) (λ m. last_flush m (history T n)) l it.at it.known.rows);
+      words = flushed-words T n l t slot lines k it.known it.is it.at;
+      entries = flushed-links T n l t slot lines k it.known it.is it.at c.len-number.result c.push.new.self numbered c.in_ok-push.ensures.added;
+      flushed = flushed-flushed T n l t slot lines k it.known it.is it.at c.row-row.result.last_store c.flush.new.self.first.items c.flush.new.self.others.lines.items marked c.in_ok-again.ensures.flushed;
+      waiting = flushed-waiting T n l t slot lines k it.known it.is it.at (record { number = c.len-number.result; slot = slot; store = c.row-row.result.last_store }) c.add.new.self refl numbered marked c.in_ok-add.ensures.own c.in_ok-add.ensures.others;
     }
 
 pub returns-else-again-clause-tells : goal.returns-else-again-clause-tells
 returns-else-again-clause-tells c = λ T n l it.
     let k = c.args.self.now in
     let t = c.args.thread in
-    let place = c.args.place in
+    let slot = c.args.slot in
     let lines = with_line l (lines_of (history T n)) in
     let row : c.row-row.result ≡ row_after (λ m. safe_store_at T m n) (history T n) l = c.row-row.ensures lines (λ m. last_line_store_at T m n) (λ m. safe_store_at T m n) (λ m. last_flush m (history T n)) l it.at it.known.rows in
     let marked = ap (λ (y : Row). y.last_store) row in
-    flushed-tells T n l t place lines k it.known it.is it.at c.in_ok-again.again (nat_eq c.row-row.result.safe c.row-row.result.last_store) c.row-row.result.safe c.row-row.result.last_store c.in_ok-again.ensures.tells (omega (arith, c.ranges.thread.fits)) (ap (λ (y : Row). y.safe) row) marked
+    flushed-tells T n l t slot lines k it.known it.is it.at c.in_ok-again.again (nat_eq c.row-row.result.safe c.row-row.result.last_store) c.row-row.result.safe c.row-row.result.last_store c.in_ok-again.ensures.tells (omega (arith, c.ranges.thread.fits)) (ap (λ (y : Row). y.safe) row) marked
     (ap (λ b. b || (c.row-row.result.safe == c.row-row.result.last_store)) (sym c.if-again.false))
 
 pub overflow_cast-number : goal.overflow_cast-number

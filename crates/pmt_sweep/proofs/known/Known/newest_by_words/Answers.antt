@@ -10,8 +10,8 @@ loop-word-preserved c = λ T n k it.
     let s = c.args.self.now in
     let word = c.loop-word.word in
     subst (IsNewestBelow c.args.low c.args.high ((word + 1) * 8) (last_in_line T n k)) (sym c.newer-newest.ensures)
-    (newest-next word c.args.low c.args.high c.part_of_word-part.result (last_in_line T n k) (last_at s.words (c.args.place * s.words_of_line + word)) c.part_of_word-part.ensures
-    (word-same T n k c.args.place s it word (omega (arith, c.loop-word-test.true, c.requires.within, c.requires.some))) c.loop-word.newest c.newest-found.result c.newest-found.ensures (c.loop-word.invariant T n k it))
+    (newest-next word c.args.low c.args.high c.part_of_word-part.result (last_in_line T n k) (last_at s.words (c.args.slot * s.words_of_line + word)) c.part_of_word-part.ensures
+    (word-same T n k c.args.slot s it word (omega (arith, c.loop-word-test.true, c.requires.within, c.requires.some))) c.loop-word.newest c.newest-found.result c.newest-found.ensures (c.loop-word.invariant T n k it))
 
 pub returns : goal.returns
 returns c = λ T n l it. newest-all c.args.low c.args.high (c.loop-word.word * 8) c.loop-word.newest (last_in_line T n l) (omega (arith, c.loop-word-test.false, c.requires.some)) (c.loop-word.invariant T n l it)

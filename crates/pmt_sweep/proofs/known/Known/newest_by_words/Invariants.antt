@@ -5,4 +5,4 @@ use Rattle.pmt_sweep.proofs.ReadingLemmas.{IsNewestBelow}
 use Rattle.pmt_sweep.proofs.known.Known.newest_by_words.Given as goal
 
 abbrev pub invariant-loop-word : goal.invariant-loop-word
-invariant-loop-word l = (T : Recording) (n k : ℕ) → IsLineAt T n k l.place l.self → IsNewestBelow l.low l.high (l.word * 8) (last_in_line T n k) l.newest
+invariant-loop-word l = (T : Recording) (n k : ℕ) → IsLineAt T n k l.slot l.self → IsNewestBelow l.low l.high (l.word * 8) (last_in_line T n k) l.newest

@@ -9,8 +9,8 @@ pub loop-word-preserved : goal.loop-word-preserved
 loop-word-preserved c = λ T n k it.
     let s = c.args.self.now in
     let word = c.loop-word.word in
-    oldest-next word c.args.low c.args.high c.part_of_word-part.result (last_in_line T n k) (last_at s.words (c.args.place * s.words_of_line + word)) c.part_of_word-part.ensures
-    (word-same T n k c.args.place s it word (omega (arith, c.loop-word-test.true, c.requires.within, c.requires.some))) c.loop-word.oldest c.oldest-found.result c.older-oldest.result
+    oldest-next word c.args.low c.args.high c.part_of_word-part.result (last_in_line T n k) (last_at s.words (c.args.slot * s.words_of_line + word)) c.part_of_word-part.ensures
+    (word-same T n k c.args.slot s it word (omega (arith, c.loop-word-test.true, c.requires.within, c.requires.some))) c.loop-word.oldest c.oldest-found.result c.older-oldest.result
     c.older-oldest.ensures.either c.older-oldest.ensures.first c.older-oldest.ensures.second c.oldest-found.ensures (c.loop-word.invariant T n k it)
 
 pub returns : goal.returns

@@ -5,4 +5,4 @@ use Rattle.pmt_sweep.proofs.ReadingLemmas.{IsOldestBelow}
 use Rattle.pmt_sweep.proofs.known.Known.oldest.Given as goal
 
 abbrev pub invariant-loop-word : goal.invariant-loop-word
-invariant-loop-word l = (T : Recording) (n k : ℕ) → IsLineAt T n k l.place l.self → IsOldestBelow l.low l.high (l.word * 8) (last_in_line T n k) l.oldest
+invariant-loop-word l = (T : Recording) (n k : ℕ) → IsLineAt T n k l.slot l.self → IsOldestBelow l.low l.high (l.word * 8) (last_in_line T n k) l.oldest

@@ -9,13 +9,13 @@ pub loop-word-preserved : goal.loop-word-preserved
 loop-word-preserved c = λ T n k it.
     let s = c.args.self.now in
     let word = c.loop-word.word in
-    let within : (word + 1) * 8 ≤ s.format.line_size = omega (arith, c.loop-word-test.true, line-size T n k c.args.place s it) in
-    oldest-next word 0 s.format.line_size (record { word = word; low = 0; high = 8 }) (last_in_line T n k) (last_at s.words (c.args.place * s.words_of_line + word)) (all-of_word word s.format.line_size within)
-    (word-same T n k c.args.place s it word (omega (arith, within))) c.loop-word.oldest c.oldest_of_all.result c.older-oldest.result
+    let within : (word + 1) * 8 ≤ s.format.line_size = omega (arith, c.loop-word-test.true, line-size T n k c.args.slot s it) in
+    oldest-next word 0 s.format.line_size (record { word = word; low = 0; high = 8 }) (last_in_line T n k) (last_at s.words (c.args.slot * s.words_of_line + word)) (all-of_word word s.format.line_size within)
+    (word-same T n k c.args.slot s it word (omega (arith, within))) c.loop-word.oldest c.oldest_of_all.result c.older-oldest.result
     c.older-oldest.ensures.either c.older-oldest.ensures.first c.older-oldest.ensures.second c.oldest_of_all.ensures (c.loop-word.invariant T n k it)
 
 pub returns : goal.returns
-returns c = λ T n l it. oldest-all 0 c.args.self.now.format.line_size (c.loop-word.word * 8) c.loop-word.oldest (last_in_line T n l) (omega (arith, c.loop-word-test.false, line-size T n l c.args.place c.args.self.now it)) (c.loop-word.invariant T n l it)
+returns c = λ T n l it. oldest-all 0 c.args.self.now.format.line_size (c.loop-word.word * 8) c.loop-word.oldest (last_in_line T n l) (omega (arith, c.loop-word-test.false, line-size T n l c.args.slot c.args.self.now it)) (c.loop-word.invariant T n l it)
 
 pub loop-word-init : goal.loop-word-init
 loop-word-init c = grind (arith, elements)

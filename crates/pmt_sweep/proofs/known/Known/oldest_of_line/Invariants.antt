@@ -5,4 +5,4 @@ use Rattle.pmt_sweep.proofs.ReadingLemmas.{IsOldestBelow}
 use Rattle.pmt_sweep.proofs.known.Known.oldest_of_line.Given as goal
 
 abbrev pub invariant-loop-word : goal.invariant-loop-word
-invariant-loop-word l = (T : Recording) (n k : ℕ) → IsLineAt T n k l.place l.self → IsOldestBelow 0 l.self.format.line_size (l.word * 8) (last_in_line T n k) l.oldest
+invariant-loop-word l = (T : Recording) (n k : ℕ) → IsLineAt T n k l.slot l.self → IsOldestBelow 0 l.self.format.line_size (l.word * 8) (last_in_line T n k) l.oldest

@@ -4,9 +4,9 @@ use Rattle.pmt_model.specs.Machine.{Stores}
 use Rattle.pmt_model.specs.Traces.{history, lines_of, with_line}
 use Rattle.pmt_laws.proofs.Histories.{length-history}
 use Rattle.pmt_safety.specs.Safety.{last_line_store, safe_store}
-use Rattle.pmt_tables.specs.Places.{IsPlaceOf}
+use Rattle.pmt_tables.specs.Slots.{IsSlotOf}
 use Rattle.pmt_rows.proofs.OpenLemmas.{waits-on}
-use Rattle.pmt_rows.proofs.RowLemmas.{has-place, stored-known}
+use Rattle.pmt_rows.proofs.RowLemmas.{has-slot, stored-known}
 use Rattle.pmt_trimming.proofs.PassingLemmas.{judged, tells-stays}
 use Rattle.pmt_trimming.proofs.pass.Pass.judge_store.Goals as goal
 
@@ -15,8 +15,8 @@ store-requires c =
     let T = c.requires.passing.0 in
     let h = history T (length T.events) in
     let l = c.args.line in
-    let known = c.in_ok-place.ensures.known (lines_of h) (λ k. last_line_store k h) (λ k. safe_store k h) (λ k. last_flush k h) c.requires.passing.1.lines.rows in
-    has-place (with_line l (lines_of h)) (λ k. last_line_store k h) (λ k. safe_store k h) (λ k. last_flush k h) _ known l c.in_ok-place.place c.in_ok-place.ensures.here
+    let known = c.in_ok-slot.ensures.known (lines_of h) (λ k. last_line_store k h) (λ k. safe_store k h) (λ k. last_flush k h) c.requires.passing.1.lines.rows in
+    has-slot (with_line l (lines_of h)) (λ k. last_line_store k h) (λ k. safe_store k h) (λ k. last_flush k h) _ known l c.in_ok-slot.slot c.in_ok-slot.ensures.here
 
 pub returns-clause-follows : goal.returns-clause-follows
 returns-clause-follows c = λ T e w is before.
@@ -24,8 +24,8 @@ returns-clause-follows c = λ T e w is before.
     let h = history T n in
     let l = c.args.line in
     let lines = with_line l (lines_of h) in
-    let known = c.in_ok-place.ensures.known (lines_of h) (λ k. last_line_store k h) (λ k. safe_store k h) (λ k. last_flush k h) before.lines.rows in
-    let at = subst (IsPlaceOf l c.in_ok-place.place) known.placed c.in_ok-place.ensures.here in
+    let known = c.in_ok-slot.ensures.known (lines_of h) (λ k. last_line_store k h) (λ k. safe_store k h) (λ k. last_flush k h) before.lines.rows in
+    let at = subst (IsSlotOf l c.in_ok-slot.slot) known.placed c.in_ok-slot.ensures.here in
     let number : c.next_number-number.result ≡ suc (length h) = omega (arith, c.next_number-number.ensures, before.all, length-history T n (omega arith)) in
     judged T e (Stores l w) is c.args.self.now before _ _ refl refl refl
     (record {

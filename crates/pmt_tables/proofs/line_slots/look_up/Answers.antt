@@ -2,7 +2,7 @@ use Rattle.std.proofs.Common.{inl, inr, sym, ap, ◌∙◌, arith}
 use Rattle.std.specs.Prelude.{slice_index}
 use Rattle.std.proofs.lemmas.Bool.{true≢false}
 use Rattle.pmt_tables.proofs.CellLemmas.{past-next, none-past}
-use Rattle.pmt_tables.proofs.line_places.look_up.Goals as goal
+use Rattle.pmt_tables.proofs.line_slots.look_up.Goals as goal
 
 pub loop-look-init : goal.loop-look-init
 loop-look-init c = λ k less. absurd (omega (arith, less))

@@ -5,8 +5,8 @@ use Rattle.std.specs.List.{list_any, IsDistinct}
 use Rattle.std.proofs.lemmas.List.{length-take-le, take-append-drop}
 use Rattle.std.proofs.lemmas.Option.{slice_get_within, slice_get-get_or}
 use Rattle.std.proofs.Math.Seq.{take-suc}
-use Rattle.pmt_tables.specs.Places.{insert_line}
-use Rattle.pmt_tables.proofs.ListLemmas.{one-place, get-left, list_any-place}
+use Rattle.pmt_tables.specs.Slots.{insert_line}
+use Rattle.pmt_tables.proofs.ListLemmas.{one-slot, get-left, list_any-slot}
 
 -- the first lines, and the next one inserted
 pub inserted-next : (lines : List ℕ) (i : ℕ) → IsDistinct nat_eq lines → i < length lines → insert_line (take i lines) (get_or lines i 0) ≡ take (i + 1) lines
@@ -20,8 +20,8 @@ inserted-next lines i once within =
     absent : (b : Bool) → list_any (nat_eq l) (take i lines) ≡ b → list_any (nat_eq l) (take i lines) ≡ false
     absent false none = none
     absent true had =
-        let there = list_any-place (take i lines) l had in
+        let there = list_any-slot (take i lines) l had in
         let before = slice_get_within (take i lines) there.0 l there.1 in
         let here : slice_get lines there.0 ≡ Some l = subst (λ ls. slice_get ls there.0 ≡ Some l) (take-append-drop i lines) (get-left (take i lines) (drop i lines) there.0 l there.1) in
-        let same : there.0 ≡ i = one-place lines l there.0 i once here (slice_get-get_or lines i 0 within) in
+        let same : there.0 ≡ i = one-slot lines l there.0 i once here (slice_get-get_or lines i 0 within) in
         absurd (omega (arith, before, length-take-le i lines (omega (arith, within)), same))

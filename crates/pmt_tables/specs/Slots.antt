@@ -2,13 +2,13 @@
 use Rattle.std.specs.Prelude.{◌≡◌, ◌≢◌, ◌<◌, ◌+◌, ◌-◌, ◌*◌, ◌/◌, ◌%◌, ◌^◌, ℕ, suc, List, [], ◌∷◌, ◌++◌, Some, Option, MatchOption, bit_and, bit_or, length, nat_eq, slice_get, slice_index, if◌then◌else◌}
 use Rattle.std.specs.List.{IsDistinct, list_any}
 
--- Line l stands at this place.
-abbrev pub IsPlaceOf : ℕ → ℕ → List ℕ → Type 0
-IsPlaceOf l place lines = slice_get lines place ≡ Some l
+-- Line l stands at this slot.
+abbrev pub IsSlotOf : ℕ → ℕ → List ℕ → Type 0
+IsSlotOf l slot lines = slice_get lines slot ≡ Some l
 
--- A place where line l stands, or none.
+-- A slot where line l stands, or none.
 abbrev pub IsFound : ℕ → List ℕ → Option ℕ → Type 0
-IsFound l lines found = MatchOption found ((place : ℕ) → IsPlaceOf l place lines → ⊥) (λ place. IsPlaceOf l place lines)
+IsFound l lines found = MatchOption found ((slot : ℕ) → IsSlotOf l slot lines → ⊥) (λ slot. IsSlotOf l slot lines)
 
 -- The cell at which the look with this number is made for a line, in an index of so many cells.
 unfoldable pub cell_at : ℕ → ℕ → ℕ → ℕ
@@ -23,10 +23,10 @@ IsReached cells line entry =
     (d : ℕ) × (d < length cells) × (slice_index cells (cell_at (length cells) line d) ≡ entry)
     × ((k : ℕ) → k < d → slice_index cells (cell_at (length cells) line k) ≢ 0)
 
--- Each line stands at one place, and the cells have it, and one more.
+-- Each line stands at one slot, and the cells have it, and one more.
 abbrev pub AreIndexed : List ℕ → List ℕ → Type 0
-AreIndexed lines cells = IsDistinct nat_eq lines × ((place l : ℕ) → IsPlaceOf l place lines → IsReached cells l (suc place))
+AreIndexed lines cells = IsDistinct nat_eq lines × ((slot l : ℕ) → IsSlotOf l slot lines → IsReached cells l (suc slot))
 
--- The lines once line l has a place: if it had none, it goes last.
+-- The lines once line l has a slot: if it had none, it goes last.
 abbrev pub insert_line : List ℕ → ℕ → List ℕ
 insert_line lines l = if list_any (nat_eq l) lines then lines else lines ++ l ∷ []

@@ -1,7 +1,7 @@
 use Rattle.std.proofs.Common.{◌≡◌, [], sym, subst, arith, rules}
-use Rattle.pmt_tables.specs.Places.{AreIndexed}
+use Rattle.pmt_tables.specs.Slots.{AreIndexed}
 use Rattle.pmt_tables.proofs.CellLemmas.{indexed-none}
-use Rattle.pmt_tables.proofs.line_places.LinePlaces.new.Goals as goal
+use Rattle.pmt_tables.proofs.line_slots.LineSlots.new.Goals as goal
 
 pub invariant_of-result : goal.invariant_of-result
 invariant_of-result c =

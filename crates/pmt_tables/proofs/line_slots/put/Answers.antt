@@ -1,9 +1,9 @@
 use Rattle.std.proofs.Common.{◌≡◌, ◌<◌, inl, inr, length, sym, ap, subst, ◌∙◌, arith}
 use Rattle.std.specs.Prelude.{slice_index}
 use Rattle.std.proofs.lemmas.Bool.{cases_lt}
-use Rattle.pmt_tables.specs.Places.{IsReached, cell_at}
+use Rattle.pmt_tables.specs.Slots.{IsReached, cell_at}
 use Rattle.pmt_tables.proofs.CellLemmas.{seen_at, read-is, put-others, put-reached}
-use Rattle.pmt_tables.proofs.line_places.put.Goals as goal
+use Rattle.pmt_tables.proofs.line_slots.put.Goals as goal
 
 pub loop-look-preserved : goal.loop-look-preserved
 loop-look-preserved c = (

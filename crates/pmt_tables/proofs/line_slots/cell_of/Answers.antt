@@ -1,6 +1,6 @@
 use Rattle.std.proofs.Common.{refl}
-use Rattle.pmt_tables.specs.Places.{cell_at}
-use Rattle.pmt_tables.proofs.line_places.cell_of.Goals as goal
+use Rattle.pmt_tables.specs.Slots.{cell_at}
+use Rattle.pmt_tables.proofs.line_slots.cell_of.Goals as goal
 
 pub returns-clause-cell : goal.returns-clause-cell
 unfolding cell_at
