@@ -14,7 +14,7 @@ use Rattle.pmt_asserts.specs.declared.put.Write.{Write}
 use Rattle.pmt_asserts.specs.Puts.{covers, with_put, puts_of, put_at, key_of, IsWriteOf, Fits, AreWritesOf}
 use Rattle.pmt_asserts.proofs.RankLemmas.{covers-range, range-covers}
 use Rattle.std.specs.List.{AllByRecursion}
-use Rattle.pmt_lines.specs.Steps.{AreSteps, IsStepKind}
+use Rattle.pmt_lines.specs.Jobs.{AreSteps, IsStepKind}
 
 -- one store, if it is one, before others
 with_put-append : (n : ℕ) (k : StepKind) (ps qs : List Put) → with_put n k (ps ++ qs) ≡ with_put n k ps ++ qs
@@ -69,9 +69,6 @@ has-all old new rank b p past fits is w =
 -- The list has the writes of the first i stores.
 abbrev pub HasWrites : List Put → List Write → ℕ → Type 0
 HasWrites puts writes i = (w : Write) → Contains writes w ↔ (IsWriteOf puts w × (w.rank ≤ i))
-
-pub writes-none : (puts : List Put) → HasWrites puts [] 0
-writes-none puts w = (λ c. absurd (omega (arith, c.1)), λ h. absurd (omega (arith, h.0.some, h.1)))
 
 pub writes-more :
     (puts : List Put) (old new : List Write) (i : ℕ) (p : Put) → p ≡ put_at puts i → i < length puts → HasWrites puts old i →

@@ -15,7 +15,7 @@ use Rattle.pmt_laws.proofs.AssertLemmas.{persist_by_fronts, ordered_by_fronts, l
 use Rattle.pmt_asserts.specs.declared.oldest.Oldest.{Oldest}
 use Rattle.pmt_asserts.specs.declared.oldest.Earliest.{Earliest}
 use Rattle.pmt_asserts.specs.Tables.{PersistedBy, RankedBy, IsUnwritten, IsLastAt}
-use Rattle.pmt_asserts.specs.Judging.{EachIn, IsOldestIn, EachApart, ComesNoEarlier, IsEarliest, IsEarliestOf, RanksBefore, IsLineInOrder, IsLineOrdered, place_for}
+use Rattle.pmt_asserts.specs.Judging.{EachIn, IsOldestIn, ComesNoEarlier, IsEarliest, IsEarliestOf, RanksBefore, IsLineInOrder, IsLineOrdered, place_for}
 use Rattle.pmt_lines.proofs.TraceLemmas.{writes-line}
 
 -- The last store to a byte is to the byte's line.
@@ -143,26 +143,6 @@ lines-from T i A B e o trace is passes line apart = (ranks, go (eqb_tells line e
     go (inr free) c known =
         subst (λ t. IfSome (if t then option_map (λ d. d.number) c else Some e.number) (λ n. EachIn T line A (PersistedBy T i n))) (sym free.0)
         (λ a k same. let r = is.reached in before-persisted T i e.line r.1 e.number a r.0 trace (λ eq. free.1 (sym same ∙ eq)) r.4 (each r.0 r.2 a k))
-
--- where no byte of the second range is written, isOrderedBefore passes
-pub ordered-unwritten : (T : Recording) (i : ℕ) (A B : Span) → EachApart T None B (IsUnwritten T i) → OrderedPasses (history T i) A B
-ordered-unwritten T i A B none = (ordered-by T i A B).0 (λ b j a k. unwritten-before T i a b (none b j tt))
-
-abbrev no_store : Option Placed
-no_store = None
-
--- an unwritten byte comes no later than any other
-before-unwritten : (T : Recording) (i a b : ℕ) → IsUnwritten T i a → IsNoLater T i a b
-before-unwritten T i a b none =
-    subst (λ o. IfSome (last_store b (history T i)) (λ y. IfSome o (λ x. NoLater (up_to_last b (history T i)) x y))) (sym none) (go (last_store b (history T i)))
-  where
-    go : (o : Option Placed) → IfSome o (λ y. IfSome no_store (λ x. NoLater (up_to_last b (history T i)) x y))
-    go None = tt
-    go (Some y) = tt
-
--- where no byte of the first range is written, isOrderedBefore passes
-pub unwritten-ordered : (T : Recording) (i : ℕ) (A B : Span) → ((b : ℕ) → InSpan A b → IsUnwritten T i b) → OrderedPasses (history T i) A B
-unwritten-ordered T i A B none = (ordered-by T i A B).0 (λ b j a k. before-unwritten T i a b (none a k))
 
 -- a line is in order exactly if the last stores of the first range are ranked by the first one of the second
 pub ranked-line : (T : Recording) (i line : ℕ) (A B : Span) (o : Oldest) → IsOldestIn T i line B o → EachIn T line A (RankedBy T i o.rank) ↔ IsLineInOrder T i A B line

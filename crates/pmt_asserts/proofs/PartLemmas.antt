@@ -1,5 +1,5 @@
 -- The bytes of a range in a line.
-use Rattle.std.proofs.Common.{◌≡◌, ℕ, ◌+◌, ◌*◌, ◌/◌, ◌<◌, ◌≤◌, ◌↔◌, ap, subst, ◌^◌, arith}
+use Rattle.std.proofs.Common.{◌≡◌, ℕ, ◌+◌, ◌*◌, ◌/◌, ◌<◌, ◌≤◌, ◌↔◌, ap, subst, arith}
 use Rattle.std.specs.Prelude.{max, min, Option, None, Some}
 use Rattle.std.proofs.lemmas.Nat.{div_below, le-div}
 use Rattle.std.proofs.Math.Nat.{lt-div-mul-add, div-mul-le_self}
@@ -11,11 +11,7 @@ use Rattle.pmt_asserts.specs.declared.oldest.Oldest.{Oldest}
 use Rattle.pmt_asserts.specs.declared.part.Part.{Part}
 use Rattle.pmt_asserts.specs.Tables.{IsOldestOf}
 use Rattle.pmt_asserts.specs.Judging.{IsOldestOfLine}
-use Rattle.pmt_lines.proofs.TraceLemmas.{Bytes32, Bytes64, Bytes128, Bytes256, size-of_format, size-some}
-
--- the bytes of a line lie within the addresses
-pub line-fits : (f : Layout) (l : ℕ) → IsFormat f → l < 2 ^ 48 → l * f.line_size + f.line_size < 2 ^ 60
-line-fits f l is h = elim (size-of_format f is) [ Bytes32 e ↦ rw e (omega arith) | Bytes64 e ↦ rw e (omega arith) | Bytes128 e ↦ rw e (omega arith) | Bytes256 e ↦ rw e (omega arith) ]
+use Rattle.pmt_lines.proofs.TraceLemmas.{size-some}
 
 -- the bytes of a range in a line are those from the later start to the earlier end
 pub part-is :

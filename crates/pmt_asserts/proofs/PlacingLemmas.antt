@@ -7,8 +7,7 @@ use Rattle.std.proofs.lemmas.List.Elements.{All-push, All-from_recursion, All-co
 use Rattle.pmt_model.specs.Values.{line_of}
 use Rattle.pmt_model.specs.Machine.{Act, Stores, Flushes, Clflushes, Fences, Asserts, count}
 use Rattle.pmt_model.specs.Traces.{Recording, IsTrace, history, count_at, lines_of, has_line, with_line}
-use Rattle.pmt_lines.specs.Raises.{LineFound}
-use Rattle.pmt_lines.specs.Splitting.{IsJob}
+use Rattle.pmt_lines.specs.Jobs.{LineFound, IsJob}
 use Rattle.pmt_asserts.specs.Tables.{found_line, AreResultsOf, IsUnwritten}
 use Rattle.pmt_asserts.specs.Placing.{IsPlacing}
 use Rattle.pmt_asserts.proofs.LastLemmas.{LastIs, NoLast, LastAt, last-is}

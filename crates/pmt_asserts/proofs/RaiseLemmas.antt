@@ -2,7 +2,7 @@
 use Rattle.std.proofs.Common.{◌≡◌, ℕ, zero, suc, ◌<◌, ◌≤◌, List, [], ◌∷◌, length, get_or, refl, ◌∙◌, arith}
 use Rattle.pmt_model.specs.Traces.{Recording}
 use Rattle.pmt_model.specs.Fronts.{front_at}
-use Rattle.pmt_lines.specs.Raises.{Raise, RaisesBetween}
+use Rattle.pmt_lines.specs.Jobs.{Raise, RaisesBetween}
 
 abbrev pub no_raise : Raise
 no_raise = (0, 0)

@@ -10,13 +10,11 @@ use Rattle.pmt_model.specs.Traces.{Recording, IsTrace, history, count_at}
 use Rattle.pmt_model.specs.Fronts.{front_at}
 use Rattle.pmt_model.specs.Assertions.{up_to_last}
 use Rattle.pmt_lines.specs.declared.step.Step.{Step}
-use Rattle.pmt_lines.specs.Raises.{Raise, LineFound, IsLineResult, RaisesBetween}
-use Rattle.pmt_lines.specs.Jobs.{IsJobOf}
-use Rattle.pmt_lines.specs.Splitting.{IsJob}
+use Rattle.pmt_lines.specs.Jobs.{Raise, LineFound, IsLineResult, RaisesBetween, IsJobOf, IsJob}
 use Rattle.pmt_asserts.specs.declared.put.Put.{Put}
 use Rattle.pmt_asserts.specs.Puts.{puts_of, no_put, put_at, last_in, IsLeastIn}
 use Rattle.pmt_asserts.specs.Tables.{LieIn, EachFrom, PersistedBy, RankedBy, ComesFrom, IsLastAt, IsOldest, IsUnwritten}
-use Rattle.pmt_asserts.proofs.TraceLemmas.{ArePuts, job-puts, counted, numbers-rise, count_at-le_length, puts-length}
+use Rattle.pmt_asserts.proofs.TraceLemmas.{ArePuts, job-puts, counted, numbers-rise}
 use Rattle.pmt_asserts.proofs.RaiseLemmas.{no_raise, front_after, front-raised, places-rise}
 use Rattle.pmt_asserts.proofs.LastLemmas.{LastIs, NoLast, LastAt, last-is}
 
@@ -37,10 +35,6 @@ pub count-found :
 count-found T l steps puts n i job is within point =
     let are = subst (ArePuts T l 0) (sym is) (job-puts T l steps job) in
     counted T l n i puts are within (λ k h. leb-true (put_at puts k).number n (point.0 k no_put (omega arith) h)) (λ k h m. past-from (put_at puts k).number n (point.1 k no_put h m))
-
--- no more come than there are
-pub count-within : (T : Recording) (l : ℕ) (steps : List Step) (puts : List Put) (n : ℕ) → IsJobOf T l steps → puts ≡ puts_of steps → count_at T l n ≤ length puts
-count-within T l steps puts n job is = omega (arith, count_at-le_length T l n, puts-length T l 0 puts (subst (ArePuts T l 0) (sym is) (job-puts T l steps job)))
 
 -- the raises are those of the line
 raises-are : (T : Recording) (found : LineFound) (raises : List Raise) → raises ≡ found.raises → IsLineResult found → IsJob T found.job → RaisesBetween T found.job.line 0 (length T.events) raises

@@ -3,7 +3,7 @@ use Rattle.std.proofs.Common.{◌≡◌, ℕ, zero, suc, ◌<◌, ◌≤◌, ◌
 use Rattle.std.specs.Prelude.{IsTrue, filter_map}
 use Rattle.std.specs.List.{AllZip}
 use Rattle.std.proofs.lemmas.Bool.{cases_lt, false≢true}
-use Rattle.std.proofs.lemmas.Option.{same_Some, none-some, slice_get_within}
+use Rattle.std.proofs.lemmas.Option.{same_Some, slice_get_within}
 use Rattle.pmt_model.specs.declared.event.Event.{Event}
 use Rattle.pmt_model.specs.declared.finding.Verdict.{Verdict}
 use Rattle.pmt_model.specs.Traces.{Recording, event, history}
@@ -31,14 +31,6 @@ has-cases [] n k (inl e) = inr e
 has-cases [] n k (inr has) = absurd has
 has-cases (j ∷ ks) n k (inl e) = inl (inl e)
 has-cases (j ∷ ks) n k (inr has) = elim (has-cases ks n k has) [ inl before ↦ inl (inr before) | inr last ↦ inr last ]
-
--- no event has been looked at
-pub assertions-none : (T : Recording) → AreAssertions T 0 []
-assertions-none T = record { rising = tt; within = λ k has. absurd has; all = all }
-  where
-    all : (k : ℕ) (e : Event) → k ≤ 0 → event T k ≡ Some e → asserts e.op ≡ true → ⊥
-    all zero e h at is = none-some e at
-    all (suc k) e h at is = absurd (omega (arith, h))
 
 -- the next event is no assertion
 pub assertions-skip :

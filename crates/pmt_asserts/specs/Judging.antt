@@ -10,7 +10,7 @@ use Rattle.pmt_model.specs.Traces.{Recording, IsTrace, history, event}
 use Rattle.pmt_model.specs.Selections.{IsRising, Has}
 use Rattle.pmt_model.specs.Assertions.{InSpan, last_store, up_to_last}
 use Rattle.pmt_model.specs.Analyses.{IsVerdictOf}
-use Rattle.pmt_lines.specs.Raises.{LineFound}
+use Rattle.pmt_lines.specs.Jobs.{LineFound}
 use Rattle.pmt_asserts.specs.declared.oldest.Oldest.{Oldest}
 use Rattle.pmt_asserts.specs.declared.oldest.Earliest.{Earliest}
 use Rattle.pmt_asserts.specs.Tables.{AreResultsOf, ComesFrom, IsLastAt, IsUnwritten, PersistedBy, RankedBy}

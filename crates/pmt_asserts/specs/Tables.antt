@@ -5,8 +5,7 @@ use Rattle.pmt_model.specs.Values.{line_of}
 use Rattle.pmt_model.specs.Traces.{Recording, IsTrace, history, lines_of}
 use Rattle.pmt_model.specs.Fronts.{front_at}
 use Rattle.pmt_model.specs.Assertions.{last_store, up_to_last}
-use Rattle.pmt_lines.specs.Splitting.{IsJob}
-use Rattle.pmt_lines.specs.Raises.{LineFound}
+use Rattle.pmt_lines.specs.Jobs.{IsJob, LineFound}
 use Rattle.pmt_asserts.specs.declared.oldest.Oldest.{Oldest}
 
 abbrev pub found_line : LineFound → ℕ

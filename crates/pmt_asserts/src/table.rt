@@ -22,7 +22,7 @@ pub struct LineTable {
 }
 
 impl Model for LineTable {
-    ghost use Rattle.pmt_lines.specs.Raises.{LineFound};
+    ghost use Rattle.pmt_lines.specs.Jobs.{LineFound};
     ghost use Rattle.pmt_asserts.specs.Puts.{IsTableOf};
 
     ghost Value = { LineFound };

@@ -15,21 +15,6 @@ use Rattle.pmt_explain.specs.declared.blocks.Blocks.{Blocks}
 use Rattle.pmt_explain.specs.declared.blocks.Stores.{Stores}
 use Rattle.pmt_explain.specs.Blocks.{AreBlocks, byte_at, IsAdded, IsKept, Notes, Opens, stores_at, Tells}
 
--- no blocks tell of nothing
-pub blocks-none : (t : Blocks) → t.places ≡ [] → t.stores.items ≡ [] → t.words ≡ [] → AreBlocks t
-unfolding IsDistinct
-blocks-none t places stores words = record {
-  once = subst (IsDistinct nat_eq) (sym places) tt;
-  stores = ap length stores ∙ ap length (sym places);
-  words = ap length words ∙ ap (λ ps. length ps * 8) (sym places);
-}
-
-pub place-none : (t : Blocks) → t.places ≡ [] → (k p : ℕ) → IsSlotOf k p t.places → ⊥
-place-none t places k p at = let e = slice_get_within t.places p k at in omega (arith, e, ap length places)
-
-pub tells-none : (t : Blocks) → t.places ≡ [] → (b : ℕ) → Tells t b 0
-tells-none t places b = inr (place-none t places (b / 64), refl)
-
 -- where a block stands, its byte is told
 pub told-at : (t : Blocks) (b x p : ℕ) → AreBlocks t → Tells t b x → IsSlotOf (b / 64) p t.places → byte_at t.words p b ≡ x
 told-at t b x p are (inl at) here = let e = one-slot t.places (b / 64) p at.0 are.once here at.1 in ap (λ q. byte_at t.words q b) e ∙ at.2
@@ -56,19 +41,6 @@ insert-new k ks new = go (list_any (nat_eq k) ks) new
     go false e = refl
 
 module _ (k m p : ℕ) (old new : Blocks) (are : AreBlocks old) (once : IsDistinct nat_eq new.places) (here : IsSlotOf k p new.places) (small : p < 4294967296) where
-  -- one that stands there already
-  pub opens-known : new ≡ old → Opens k m p old new
-  opens-known same = record {
-    are = subst AreBlocks (sym same) are;
-    here = here;
-    small = small;
-    told = λ b x tells. subst (λ t. Tells t b x) (sym same) tells;
-    stores = λ j q at. inl (
-      (record { before = ap (λ (t : Blocks). slice_get t.places q) (sym same) ∙ at; first = ap (λ t. (stores_at t q).first) same }),
-      ap (λ t. (stores_at t q).last) same,
-    );
-  }
-
   -- one that is new
   pub opens-new : new.places ≡ old.places ++ k ∷ [] → new.stores.items ≡ old.stores.items ++ record { first = m; last = m } ∷ [] → length new.words ≡ length old.words + 8 →
       ((i j : ℕ) → length old.words ≤ i → i < length new.words → j < 8 → last_at new.words i j ≡ 0) → ((i j : ℕ) → i < length old.words → j < 8 → last_at new.words i j ≡ last_at old.words i j) →

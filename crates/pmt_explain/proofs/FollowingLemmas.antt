@@ -46,18 +46,6 @@ own-flush T t l i past fence is next = record {
         next.none_before j (omega arith) (later, subst (λ v. IsAct T j (Fences v)) thread f)
     early p below (ByItself flush by_now) = let same = act-unique T i (Clflushes l) (Flushes t l) flush is in cc
 
--- a clflush at once
-pub own-clflush : (T : Recording) (l n : ℕ) → IsAct T (suc n) (Clflushes l) → IsFirst (IsCompleteBy T l (suc n)) (past_of T) (suc n)
-own-clflush T l n is = record {
-  within = omega (arith, (act-within T (suc n) (Clflushes l) is).1);
-  has = λ h. ByItself is (omega arith);
-  none_before = λ p below c. early p below c;
-}
-  where
-    early : (p : ℕ) → p < suc n → IsCompleteBy T l (suc n) p → ⊥
-    early p below (ByFence t j flush f later by_now) = absurd (omega arith)
-    early p below (ByItself flush by_now) = absurd (omega arith)
-
 -- after a flush of the line
 completed-flush : (T : Recording) (t l n past fence first : ℕ) → IsAct T (suc n) (Flushes t l) → IsFirst (IsFenceAfter T t (suc n)) past fence →
     IsFirst (IsCompletedAfter T l (suc n)) past first → IsFirst (IsCompletedAfter T l n) past (min first fence)

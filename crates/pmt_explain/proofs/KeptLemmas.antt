@@ -1,8 +1,7 @@
 -- What memory holds at a byte, by its last persisted store.
 use Rattle.std.proofs.Common.{◌≡◌, ℕ, zero, suc, ◌+◌, ◌-◌, ◌<◌, ◌≤◌, ◌⊎◌, inl, inr, Bool, true, false, List, [], ◌∷◌, ◌++◌, length, take, drop, Option, None, Some, MatchOption, refl, sym, ap, subst, ◌∙◌, arith, get_or}
 use Rattle.std.specs.Prelude.{◌&&◌, if◌then◌else◌, unwrap_or, nat_le, nat_lt, slice_get}
-use Rattle.std.proofs.Math.ListN.{replicate}
-use Rattle.std.proofs.lemmas.List.{get_or-replicate, length-replicate, take_all, drop_all}
+use Rattle.std.proofs.lemmas.List.{take_all, drop_all}
 use Rattle.std.proofs.lemmas.Option.{same_Some, slice_get_within}
 use Rattle.std.proofs.lemmas.Bool.{false≢true, cases_lt, leb-true, le-leb, lt-leb, lt-ltb, le-ltb}
 use Rattle.pmt_model.specs.declared.event.Event.{Event}
@@ -18,10 +17,6 @@ use Rattle.pmt_explain.specs.declared.bytes.CrashByte.{CrashByte}
 use Rattle.pmt_explain.specs.Crashes.{IsPersistedStore, IsLastPersisted, value_of, IsCrashByte, AreCrashBytes}
 use Rattle.pmt_explain.specs.Keepers.{persisted_to, IsCrashAt}
 use Rattle.pmt_explain.specs.Kept.{keeps, last_kept, AreLastKept, IsReadOf, AreReadOf, IsWrittenBy}
-
--- before any event
-pub kept-none : (T : Recording) (c : Crash) (first : ℕ) (last : List ℕ) (n : ℕ) → last ≡ replicate n 0 → AreLastKept T c first 0 last
-kept-none T c first last n is = let zero_number : ℕ = 0 in λ k fits. ap (λ xs. get_or xs k 0) is ∙ get_or-replicate n k 0 0 (omega (arith, ap (λ xs. length xs) is, length-replicate n zero_number))
 
 -- a choice behind unwrap_or
 choice-unwrapped : (t : Bool) (m : ℕ) (o : Option ℕ) → unwrap_or (if t then Some m else o) 0 ≡ (if t then m else unwrap_or o 0)

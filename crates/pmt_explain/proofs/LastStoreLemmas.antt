@@ -1,8 +1,8 @@
 -- The last stores to the bytes of a range, store by store.
 use Rattle.std.proofs.Common.{◌≡◌, ℕ, suc, ◌+◌, ◌-◌, ◌<◌, ◌≤◌, ◌⊎◌, inl, inr, Bool, true, false, List, ◌∷◌, length, max, min, Option, Some, refl, sym, ap, ◌∙◌, arith, get_or, set}
 use Rattle.std.specs.Prelude.{if◌then◌else◌, unwrap_or, nat_le, nat_lt, slice_get}
-use Rattle.std.proofs.Math.ListN.{length-set, replicate}
-use Rattle.std.proofs.lemmas.List.{get_or-set_same, get_or-set_other, get_or-replicate, length-replicate}
+use Rattle.std.proofs.Math.ListN.{length-set}
+use Rattle.std.proofs.lemmas.List.{get_or-set_same, get_or-set_other}
 use Rattle.std.proofs.lemmas.Bool.{cases_lt, cases_eq, and_parts, and_from, ltb-true, lt-ltb, leb-true, le-leb}
 use Rattle.pmt_model.specs.declared.event.Event.{Event}
 use Rattle.pmt_model.specs.declared.event.Op.{Op}
@@ -76,10 +76,6 @@ last-number f t (IsOrderedBefore r q) b h = refl
 unwrap-choice : (t : Bool) (m : ℕ) (o : Option ℕ) → unwrap_or (if t then Some m else o) 0 ≡ (if t then m else unwrap_or o 0)
 unwrap-choice true m o = refl
 unwrap-choice false m o = refl
-
--- before any event
-pub last-none : (T : Recording) (first : ℕ) (last : List ℕ) (n : ℕ) → last ≡ replicate n 0 → AreLastStores T first 0 last
-last-none T first last n is = let zero_number : ℕ = 0 in λ k fits. ap (λ xs. get_or xs k 0) is ∙ get_or-replicate n k 0 0 (omega (arith, ap (λ xs. length xs) is, length-replicate n zero_number))
 
 -- after one more event
 pub last-next : (T : Recording) (first n m : ℕ) (e : Event) (old new : List ℕ) → m ≡ suc n → slice_get T.events n ≡ Some e → n < length T.events → length new ≡ length old → AreLastStores T first n old →

@@ -145,9 +145,6 @@ module _ (lines : List ℕ) (rows : Numbers) (l other p : ℕ) (is_new : Bool) (
       go false true e = table.same
       go false false e = absurd (cc)
 
-  pub table-with : IsTable (insert_key nat_eq lines l) (rows_with is_new l other rows)
-  table-with = record { same = keys-with; distinct = distinct }
-
   pub reaches : Reaches l other p rows (rows_with is_new l other rows)
   reaches = record { here = at is_new keys-with; number = number is_new added keys-with; others = λ k apart. others is_new k apart }
     where

@@ -201,13 +201,6 @@ pair-alone T p l m same w v b earlier later line repeated told = record { inside
       same = told ∙ ap bool_byte fails;
     }
 
--- two stores to two lines are no pair
-pub lines-apart : (T : Recording) (p : Overwriting) (l m : ℕ) (w v : Written) → IsAct T p.earlier (Stores l w) → IsAct T p.later (Stores m v) → (m ≡ l → ⊥) → ¬ IsPair T p
-lines-apart T p l m w v earlier later apart (k, x) =
-    let first = act-unique T p.earlier (Stores k x.earlier) (Stores l w) x.is_earlier earlier in
-    let second = act-unique T p.later (Stores k x.later) (Stores m v) x.is_later later in
-    apart (cc)
-
 -- events of which one is no store are no pair
 pub earlier-none : (T : Recording) (p : Overwriting) → ((l : ℕ) (w : Written) → ¬ IsAct T p.earlier (Stores l w)) → ¬ IsPair T p
 earlier-none T p none (k, x) = none k x.earlier x.is_earlier

@@ -12,7 +12,7 @@ use Rattle.pmt_model.specs.Findings.{IsFlushOf, ByFlush, ByClflush}
 use Rattle.pmt_laws.proofs.Histories.{act-unique, act-within}
 use Rattle.pmt_reasons.proofs.CauseLaws.{no_flush_of}
 use Rattle.pmt_explain.specs.Following.{IsFenceAfter, IsFirst, past_of}
-use Rattle.pmt_explain.specs.Numbers.{Numbers, number_at, Puts}
+use Rattle.pmt_explain.specs.Numbers.{Numbers, number_at}
 use Rattle.pmt_explain.specs.Upcoming.{IsOn, ByStore, ByFlushOf, IsNextFlush, TellsNextFlush, AreNextFlushes, fence_by, next_in, next_before}
 use Rattle.pmt_explain.proofs.FirstLemmas.{first-none, first-here, first-over}
 
@@ -84,13 +84,6 @@ next-act T n l number after Asserts same is x = first-over (IsFlushOf T l) (past
 pub flushes-back : (T : Recording) (n number : ℕ) (a : Act) (old new : Numbers) → number ≡ suc n → IsAct T (suc n) a →
     ((l : ℕ) → number_at (past_of T) new l ≡ next_before a number l (number_at (past_of T) old l)) → IsAheadOf T (suc n) old → IsAheadOf T n new
 flushes-back T n number a old new same is noted x l = subst (IsNextFlush T l n) (sym (noted l)) (next-act T n l number (number_at (past_of T) old l) a same is (x l))
-
--- one line gets a number
-pub put-flush : (other number k : ℕ) (old new : Numbers) → Puts k number old new → (l : ℕ) → number_at other new l ≡ (if k == l then number else number_at other old l)
-put-flush other number k old new put l = elim (cases_eq k l) [
-  | inl e ↦ rw (eq-eqb k l e) (ap (number_at other new) (sym e) ∙ put.here other)
-  | inr apart ↦ rw (ne_eqb k l apart) (put.others other l (λ e. apart (sym e)))
-]
 
 -- an event is on one line
 pub on-store : (T : Recording) (l k i : ℕ) (w : Written) → IsAct T i (Stores k w) → IsOn T l i → k ≡ l

@@ -18,15 +18,7 @@ use Rattle.pmt_explain.specs.declared.blocks.Blocks.{Blocks}
 use Rattle.pmt_explain.specs.declared.blocks.Stores.{Stores}
 use Rattle.pmt_explain.specs.Blocks.{IsAdded, IsKept, stores_at, Tells}
 use Rattle.pmt_explain.specs.Writers.{AreStores, AreWritten, IsStoreTo, NotesOp}
-use Rattle.pmt_explain.proofs.BlockLemmas.{blocks-none, place-none, tells-none, told-none}
-
--- before any event
-pub written-none : (T : Recording) (low high : ℕ) (t : Blocks) → t.places ≡ [] → t.stores.items ≡ [] → t.words ≡ [] → AreWritten T 0 low high t
-written-none T low high t places stores words = record {
-  are = blocks-none t places stores words;
-  each = λ b from to. tells-none t places b;
-  stores = λ k p at. absurd (place-none t places k p at);
-}
+use Rattle.pmt_explain.proofs.BlockLemmas.{told-none}
 
 -- ---- One more event
 

@@ -1,17 +1,15 @@
 -- The innermost frames of labels, event by event.
-use Rattle.std.proofs.Common.{◌≡◌, ◌≢◌, ℕ, zero, suc, ◌+◌, ◌-◌, ◌<◌, ◌≤◌, ◌⊎◌, inl, inr, Bool, true, false, List, [], ◌∷◌, ◌++◌, length, length-append, get_or, Option, None, Some, refl, sym, ap, ◌∙◌, subst, arith}
-use Rattle.std.specs.Prelude.{bytes_eq, if◌then◌else◌, option_map, slice_get, slice_index_or, unwrap_or}
-use Rattle.std.specs.Bool.{Decides}
-use Rattle.std.proofs.lemmas.Bool.{cases_lt, false≢true}
+use Rattle.std.proofs.Common.{◌≡◌, ℕ, zero, suc, ◌+◌, ◌-◌, ◌<◌, ◌≤◌, ◌⊎◌, inl, inr, List, [], ◌∷◌, ◌++◌, length, length-append, get_or, Option, None, Some, sym, ap, ◌∙◌, subst, arith}
+use Rattle.std.specs.Prelude.{option_map, slice_get, slice_index_or, unwrap_or}
+use Rattle.std.proofs.lemmas.Bool.{cases_lt}
 use Rattle.std.proofs.lemmas.Option.{slice_get-get_or, slice_get_past}
-use Rattle.std.proofs.lemmas.Slice.Eq.{bytes_eq-Decides}
 use Rattle.pmt_causes.specs.Labels.{label_of as number_of}
 use Rattle.pmt_explain.proofs.GroupingLemmas.{get-before, get-last}
 use Rattle.pmt_asked.specs.declared.labels.Labels.{Labels}
 use Rattle.pmt_asked.specs.Labelling.{label_of}
 use Rattle.pmt_explanation.specs.Numbering.{AreLabelNumbers, IsLabelNumber}
 use Rattle.pmt_asked.specs.Framing.{frame_of, inner_frame}
-use Rattle.pmt_explanation.specs.Framing.{AreFirstFrames, AreFrameNumbers, IsFrameAmong, IsFrameNumber}
+use Rattle.pmt_explanation.specs.Framing.{AreFrameNumbers, IsFrameAmong, IsFrameNumber}
 
 -- an event with the same label has the same frame
 pub framed : (labels : Labels) (i : ℕ) (text : List ℕ) → label_of labels i ≡ Some text → frame_of labels i ≡ Some (inner_frame text)
@@ -22,62 +20,10 @@ pub number-again : (labels : Labels) (n j : ℕ) (o : Option ℕ) → IsLabelNum
 number-again labels n j None (text, own, first) none = let never : None ≡ Some text = sym none ∙ first.own in absurd (cc)
 number-again labels n j (Some k) (text, own, first) (f, has, is) = (f, framed labels (n + 1) text own ∙ sym (framed labels j text first.own) ∙ has, is)
 
--- one more event, whose frame came before if it has one
-firsts-again : (labels : Labels) (n : ℕ) (first : List ℕ → Option ℕ) → ((f : List ℕ) → frame_of labels (n + 1) ≡ Some f → (j : ℕ) × (0 < j) × (j ≤ n) × (frame_of labels j ≡ Some f)) →
-    AreFirstFrames labels n first → AreFirstFrames labels (n + 1) first
-firsts-again labels n first earlier before f = go (first f) (before f)
-  where
-    never : IsFrameAmong labels n f None → (j : ℕ) × (0 < j) × (j ≤ n) × (frame_of labels j ≡ Some f) → ⊥
-    never none (j, past, within, own) = none j past within own
-
-    still : IsFrameAmong labels n f None → (i : ℕ) → (n < i) ⊎ (i ≤ n) → 0 < i → i ≤ n + 1 → ¬ (frame_of labels i ≡ Some f)
-    still none i (inr within) past upto = none i past within
-    still none i (inl last) past upto = λ has. let e : i ≡ n + 1 = omega arith in never none (earlier f (subst (λ k. frame_of labels k ≡ Some f) e has))
-
-    go : (o : Option ℕ) → IsFrameAmong labels n f o → IsFrameAmong labels (n + 1) f o
-    go None none = λ i past upto. still none i (cases_lt n i) past upto
-    go (Some j) (within, is) = (omega arith, is)
-
-pub firsts-none : (labels : Labels) (n : ℕ) (first : List ℕ → Option ℕ) → label_of labels (n + 1) ≡ None → AreFirstFrames labels n first → AreFirstFrames labels (n + 1) first
-firsts-none labels n first none before = firsts-again labels n first (λ f has. let never : None ≡ Some f = sym (ap (option_map inner_frame) none) ∙ has in absurd (cc)) before
-
-pub firsts-same : (labels : Labels) (n j : ℕ) (first : List ℕ → Option ℕ) → IsLabelNumber labels (n + 1) (Some j) → j ≤ n → AreFirstFrames labels n first → AreFirstFrames labels (n + 1) first
-firsts-same labels n j first (text, own, is) within before =
-    firsts-again labels n first (λ f has. (j, is.event, within, framed labels j text is.own ∙ sym (framed labels (n + 1) text own) ∙ has)) before
-
 -- one more event with this frame
 pub number-new : (labels : Labels) (n : ℕ) (f : List ℕ) (o : Option ℕ) → frame_of labels (n + 1) ≡ Some f → IsFrameAmong labels n f o → IsFrameNumber labels (n + 1) (Some (unwrap_or o (n + 1)))
 number-new labels n f None has none = (f, has, record { event = omega arith; own = has; first = λ i past before. none i past (omega arith) })
 number-new labels n f (Some j) has (within, is) = (f, has, is)
-
-pub firsts-new : (labels : Labels) (n : ℕ) (f : List ℕ) (old new : List ℕ → Option ℕ) → frame_of labels (n + 1) ≡ Some f →
-    ((q : List ℕ) → new q ≡ (if bytes_eq f q then Some (unwrap_or (old f) (n + 1)) else old q)) → AreFirstFrames labels n old → AreFirstFrames labels (n + 1) new
-firsts-new labels n f old new has is before q = go (bytes_eq f q) refl (bytes_eq-Decides f q)
-  where
-    still : (f ≢ q) → IsFrameAmong labels n q None → (i : ℕ) → (n < i) ⊎ (i ≤ n) → 0 < i → i ≤ n + 1 → ¬ (frame_of labels i ≡ Some q)
-    still apart none i (inr within) past upto = none i past within
-    still apart none i (inl last) past upto = λ own.
-        let e : i ≡ n + 1 = omega arith in
-        let same : Some f ≡ Some q = sym has ∙ subst (λ k. frame_of labels k ≡ Some q) e own in
-        apart (cc)
-
-    other : (o : Option ℕ) → (f ≢ q) → IsFrameAmong labels n q o → IsFrameAmong labels (n + 1) q o
-    other None apart none = λ i past upto. still apart none i (cases_lt n i) past upto
-    other (Some j) apart (within, first) = (omega arith, first)
-
-    own : (o : Option ℕ) → IsFrameAmong labels n f o → IsFrameAmong labels (n + 1) f (Some (unwrap_or o (n + 1)))
-    own None none = (omega arith, record { event = omega arith; own = has; first = λ i past below. none i past (omega arith) })
-    own (Some j) (within, first) = (omega arith, first)
-
-    go : (b : Bool) → bytes_eq f q ≡ b → Decides b (f ≡ q) → IsFrameAmong labels (n + 1) q (new q)
-    go true same d =
-        let e : f ≡ q = d.0 refl in
-        let value : new q ≡ Some (unwrap_or (old f) (n + 1)) = is q ∙ rw same refl in
-        subst (IsFrameAmong labels (n + 1) q) (sym value) (subst (λ k. IsFrameAmong labels (n + 1) k (Some (unwrap_or (old f) (n + 1)))) e (own (old f) (before f)))
-    go false apart d =
-        let no : f ≢ q = λ e. false≢true (d.1 e) in
-        let value : new q ≡ old q = is q ∙ rw apart refl in
-        subst (IsFrameAmong labels (n + 1) q) (sym value) (other (old q) no (before q))
 
 -- the number of an event's frame, as it stands in a list
 number-at : (frames : List (Option ℕ)) (j : ℕ) → 0 < j → j ≤ length frames → number_of frames j ≡ slice_index_or frames (j - 1) None

@@ -88,12 +88,6 @@ found-next T n e old new is before more =
     let here : unwritten_at T (suc n) ≡ entry = told-at T n e is ∙ sym (ap (λ (i : ℕ). op_unwritten (is_written (history T n)) i e.op) place) in
     more ∙ ap (λ (us : List Unwritten). us ++ option_to_list entry) before ∙ sym (ap (unwritten_among T) place ∙ among-next T n entry here)
 
-pub bytes-next : (T : Recording) (n : ℕ) (e : Event) (old new : ℕ → Bool) → event T (suc n) ≡ Some e → ((b : ℕ) → old b ≡ is_written (history T n) b) →
-    ((b : ℕ) → new b ≡ (written_by e.op b || old b)) → (b : ℕ) → new b ≡ is_written (history T (n + 1)) b
-bytes-next T n e old new is before more b =
-    let place : n + 1 ≡ suc n = omega arith in
-    more b ∙ ap (λ (t : Bool). written_by e.op b || t) (before b) ∙ sym (ap (λ (i : ℕ). is_written (history T i) b) place ∙ written-next T n e is b)
-
 pub event-is : (T : Recording) (es : List Event) (i : ℕ) (e : Event) → es ≡ T.events → i < length es → e ≡ get_or es i e → event T (suc i) ≡ Some e
 event-is T es i e events within is = ap (λ xs. slice_get xs i) (sym events) ∙ slice_get-get_or es i e within ∙ ap Some (sym is)
 

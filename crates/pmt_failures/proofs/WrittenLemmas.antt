@@ -1,8 +1,7 @@
 -- The bytes that stores have written, by blocks of 64.
-use Rattle.std.proofs.Common.{◌≡◌, ℕ, zero, suc, ◌+◌, ◌-◌, ◌*◌, ◌/◌, ◌%◌, ◌^◌, ◌<◌, ◌≤◌, min, max, inl, inr, Bool, true, false, ◌&&◌, ◌||◌, List, length, [], refl, sym, ap, ◌∙◌, arith, true≢false}
-use Rattle.std.specs.Prelude.{cond, not, IsTrue, IsFalse, nat_eq, nat_le, nat_lt, unwrap_or}
+use Rattle.std.proofs.Common.{◌≡◌, ℕ, zero, suc, ◌+◌, ◌-◌, ◌*◌, ◌/◌, ◌%◌, ◌^◌, ◌<◌, ◌≤◌, min, max, inl, inr, Bool, true, false, ◌&&◌, ◌||◌, length, [], refl, sym, ap, ◌∙◌, arith, true≢false}
+use Rattle.std.specs.Prelude.{cond, not, IsTrue, IsFalse, nat_eq, nat_le, nat_lt}
 use Rattle.std.specs.List.{list_any, range_with_len}
-use Rattle.std.specs.Map.{lookup}
 use Rattle.std.specs.Int.{bit_at, trailing_zeros, w64}
 use Rattle.std.specs.Int.Bits.{bit_and, bit_or}
 use Rattle.std.proofs.lemmas.Bool.{cases_eq, cases_lt, le-leb, lt-leb, lt-ltb, le-ltb, eq-eqb, ne_eqb, and_from, and_left, and_right, or_left, or_right, or_from, cond-true, cond-false}
@@ -140,9 +139,6 @@ off-block a n b inside apart = elim (cases_lt b a) [
     | inr past ↦ and_right (nat_le a b) (nat_lt (b - a) n) (le-ltb (b - a) n past)
   ]
 ]
-
-pub has-none : (written : WrittenBytes) → written.blocks.entries ≡ [] → (b : ℕ) → has_byte written b ≡ false
-has-none written none b = ap (λ (es : List (ℕ × ℕ)). is_set (unwrap_or (lookup (nat_eq (b / 64)) es) 0) (b % 64)) none ∙ ap (λ (n : ℕ). nat_eq n 1) (bit_at-zero (b % 64))
 
 noted : (old new : WrittenBytes) (first len : ℕ) → first % 64 + len ≤ 64 →
     ((q : ℕ) → bits_of new q ≡ cond (nat_eq (first / 64) q) (bit_or (bits_of old (first / 64)) (2 ^ (first % 64 + len) - 2 ^ (first % 64))) (bits_of old q)) →

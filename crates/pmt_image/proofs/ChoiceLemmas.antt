@@ -37,11 +37,6 @@ pub has-right : {X : Type 0} (P : X → Type 0) (xs ys : List X) → Has P ys �
 has-right P [] ys h = h
 has-right P (x ∷ xs) ys h = inr (has-right P xs ys h)
 
-pub has-weaker : {X : Type 0} (P Q : X → Type 0) → ((x : X) → P x → Q x) → (xs : List X) → Has P xs → Has Q xs
-has-weaker P Q weaker [] h = absurd h
-has-weaker P Q weaker (x ∷ xs) (inl here) = inl (weaker x here)
-has-weaker P Q weaker (x ∷ xs) (inr later) = inr (has-weaker P Q weaker xs later)
-
 pub has-flat : {X Y : Type 0} (P : X → Type 0) (Q : Y → Type 0) (f : X → List Y) → ((x : X) → P x → Has Q (f x)) → (xs : List X) → Has P xs → Has Q (flat_map f xs)
 has-flat P Q f gives [] h = absurd h
 has-flat P Q f gives (x ∷ xs) (inl here) = has-left Q (f x) (flat_map f xs) (gives x here)

@@ -1,8 +1,8 @@
 -- Pieces of a pool, one after another.
 use Rattle.std.proofs.Common.{◌≡◌, ℕ, suc, ◌+◌, ◌-◌, ◌<◌, ◌≤◌, List, [], ◌∷◌, ◌++◌, length, take, Option, refl, sym, ap, ap₂, subst, ◌∙◌, arith, length-append}
 use Rattle.std.proofs.lemmas.List.{take_all, length-take}
-use Rattle.std.proofs.KnownBytes.{Appends-trans, Consumes-trans, Consumes-nil, Appends-nil, Consumes-kept, Keeps-refl}
-use Rattle.std.specs.Io.KnownBytes.{Consumes, Appends, Keeps}
+use Rattle.std.proofs.KnownBytes.{Appends-trans, Consumes-trans, Keeps-refl}
+use Rattle.std.specs.Io.KnownBytes.{Consumes, Appends}
 use Rattle.std.proofs.Common.{reverse, Result, Ok, Err}
 use Rattle.pmt_model.specs.Values.{Written}
 use Rattle.pmt_model.specs.Machine.{Image}
@@ -22,23 +22,11 @@ use Rattle.pmt_image.specs.Pools.{over, AllInside}
 use Rattle.pmt_image.specs.Copying.{IsCopied, IsEndedBy, Copies, WritesImage, copy_result, image_after, copy_reads, copy_writes, image_reads, image_writes}
 use Rattle.pmt_image.proofs.OverLemmas.{over-length, over-append, over-take, over-same}
 
-take-zero : (bs : List ℕ) → take 0 bs ≡ []
-take-zero [] = refl
-take-zero (b ∷ bs) = refl
-
 take-past : (xs ys : List ℕ) (k : ℕ) → take (length xs + k) (xs ++ ys) ≡ xs ++ take k ys
 take-past [] ys k = let e : 0 + k ≡ k = omega arith in ap (λ n. take n ys) e
 take-past (x ∷ xs) ys k =
     let e : suc (length xs) + k ≡ suc (length xs + k) = omega arith in
     ap (λ n. take n (x ∷ (xs ++ ys))) e ∙ ap (λ zs. x ∷ zs) (take-past xs ys k)
-
--- nothing is read or written yet
-pub copied-none : (image : Image) (at : ℕ) (r w : Option (List ℕ)) → IsCopied image at [] 0 r r w w
-copied-none image at r w = record { taken = Consumes-nil r; given = Appends-nil w; within = omega arith }
-
--- a device failed, and kept what it had
-pub copied-kept : (image : Image) (at : ℕ) (r s w : Option (List ℕ)) → Keeps r s → IsCopied image at [] 0 r s w w
-copied-kept image at r s w kept = record { taken = Consumes-kept r r s [] (Consumes-nil r) kept; given = Appends-nil w; within = omega arith }
 
 pub copied-same : (f g : Image) (at : ℕ) (bytes : List ℕ) (out : ℕ) (r s w v : Option (List ℕ)) → ((a : ℕ) → f a ≡ g a) → IsCopied f at bytes out r s w v → IsCopied g at bytes out r s w v
 copied-same f g at bytes out r s w v same x = record {

@@ -5,16 +5,13 @@ use Rattle.std.proofs.lemmas.Bool.{cases_eq, eq-eqb, ne_eqb, both_ways}
 use Rattle.std.proofs.lemmas.List.{get_or-set_same, get_or-set_other, length-set, same_lists, get_or-map, length-map}
 use Rattle.std.proofs.lemmas.List.Elements.{recursion_from_All}
 use Rattle.pmt_model.specs.declared.event.Event.{Event}
-use Rattle.pmt_model.specs.Values.{Layout}
 use Rattle.pmt_model.specs.Machine.{Act, Flushes, Fences, Asserts}
 use Rattle.pmt_model.specs.Traces.{Recording, act, IsAct, history, has_line, lines_of}
-use Rattle.pmt_model.specs.Pushing.{with_event, empty}
+use Rattle.pmt_model.specs.Pushing.{with_event}
 use Rattle.pmt_model.specs.Fronts.{open_mark}
-use Rattle.pmt_laws.proofs.Histories.{act-within, act-unique}
+use Rattle.pmt_laws.proofs.Histories.{act-unique}
 use Rattle.pmt_lines.specs.declared.step.Step.{Step}
-use Rattle.pmt_lines.specs.Steps.{LineWork, with_step}
-use Rattle.pmt_lines.specs.Jobs.{IsStepOf, Touches, ByFence, IsFlushOrFence, AFlush, AFence, IsThreadJobOf}
-use Rattle.pmt_lines.specs.Splitting.{IsLeanJob, line_in, places_of, OpenEach, ArePlaces, IsSplitting, IsSplit, EndsAt}
+use Rattle.pmt_lines.specs.Jobs.{LineWork, with_step, IsStepOf, Touches, ByFence, IsFlushOrFence, AFlush, AFence, IsThreadJobOf, IsLeanJob, line_in, places_of, OpenEach, ArePlaces, IsSplitting, IsSplit, EndsAt}
 use Rattle.pmt_taking.proofs.GrownLemmas.{length-grown, history-old, history-new, act-new}
 use Rattle.pmt_lines.proofs.GrowLemmas.{job-stays, job-takes, thread_job-stays}
 use Rattle.pmt_lines.proofs.LineActLemmas.{untouched-assert, untouched-fence}
@@ -136,23 +133,6 @@ module _ (T : Recording) (e : Event) (keys : List ℕ) (lines : List LineWork) (
 
       none : ¬ IsFlushOrFence (with_event T e) (suc (length T.events))
       none = no_flush_or_fence (with_event T e) (suc (length T.events)) Asserts is_act (λ t l e. cc) (λ t e. cc)
-
--- no events yet
-pub split-start : (format : Layout) (opens : List (List ℕ)) → length opens ≡ 256 → ((t : ℕ) → places_of t opens ≡ []) → IsSplitting (empty format) [] [] opens []
-split-start format opens threads none =
-    record {
-      known = refl;
-      line_each = refl;
-      job_each = λ k d h. absurd (omega arith);
-      threads = threads;
-      open_each = λ t k d h. absurd (omega arith);
-      placed = λ t. subst (λ ps. All (λ p. p < 0) ps) (sym (none t)) (λ k d h. absurd (omega arith));
-      thread_job = λ n h is. nothing n is;
-    }
-  where
-    nothing : (n : ℕ) → IsFlushOrFence (empty format) n → ⊥
-    nothing n (AFlush t l is) = absurd (omega (arith, (act-within (empty format) n _ is).0, (act-within (empty format) n _ is).1))
-    nothing n (AFence t is) = absurd (omega (arith, (act-within (empty format) n _ is).0, (act-within (empty format) n _ is).1))
 
 -- after the last event the trace is taken apart
 pub split-end : (T : Recording) (keys : List ℕ) (lines : List LineWork) (opens : List (List ℕ)) (fences : List Step) → IsSplitting T keys lines opens fences → IsSplit T lines fences

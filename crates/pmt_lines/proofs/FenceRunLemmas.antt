@@ -11,9 +11,7 @@ use Rattle.pmt_laws.proofs.Histories.{history-act, history-step, act-within, act
 use Rattle.pmt_lines.specs.declared.step.StepKind.{StepKind}
 use Rattle.pmt_lines.specs.declared.step.StepKind.TheVariants.{Store, Flush, Clflush, Fence}
 use Rattle.pmt_lines.specs.declared.step.Step.{Step}
-use Rattle.pmt_lines.specs.Steps.{AreSteps, is_fence, is_flush}
-use Rattle.pmt_lines.specs.Jobs.{IsThreadKind, IsThreadStep, IsFlushOrFence, AFlush, AFence, IsWalkFrom, IsThreadJobOf}
-use Rattle.pmt_lines.specs.Fences.{IsEmptyFences}
+use Rattle.pmt_lines.specs.Jobs.{AreSteps, is_fence, is_flush, IsThreadKind, IsThreadStep, IsFlushOrFence, AFlush, AFence, IsWalkFrom, IsThreadJobOf, IsEmptyFences}
 use Rattle.pmt_lines.proofs.FenceLemmas.{has_flushed, has_flushed-left, has_flushed-flush, has_flushed-fence, empty-from_test, test-from_empty}
 
 -- lists of numbers with one more at the end

@@ -4,7 +4,7 @@ use Rattle.pmt_model.specs.declared.finding.Finding.{Finding}
 use Rattle.pmt_model.specs.declared.finding.Finding.TheVariants.{Overwritten}
 use Rattle.pmt_model.specs.Selections.{IsRising, Has}
 use Rattle.pmt_model.specs.Analyses.{IsReportedBefore, InReportOrder, HasFinding}
-use Rattle.pmt_lines.specs.Scans.{overwritten_by, found_if}
+use Rattle.pmt_lines.specs.Jobs.{overwritten_by, found_if}
 
 -- what two lists together have
 pub has-append : (xs ys : List Finding) (f : Finding) → HasFinding (xs ++ ys) f → HasFinding xs f ⊎ HasFinding ys f

@@ -15,11 +15,8 @@ use Rattle.pmt_lines.specs.declared.step.StepKind.TheVariants.{Store, Flush, Clf
 use Rattle.pmt_lines.specs.declared.step.Step.{Step}
 use Rattle.pmt_lines.specs.declared.line_findings.Scan.{Scan}
 use Rattle.pmt_lines.specs.declared.line_findings.Ending.{Ending}
-use Rattle.pmt_lines.specs.Steps.{AreSteps}
-use Rattle.pmt_lines.specs.Jobs.{IsKind, IsStepOf, Touches, ByStore, ByFlush, ByClflush, IsWalkFrom, IsJobOf}
-use Rattle.pmt_lines.specs.Running.{TakesStep}
+use Rattle.pmt_lines.specs.Jobs.{AreSteps, IsKind, IsStepOf, Touches, ByStore, ByFlush, ByClflush, IsWalkFrom, IsJobOf, TakesStep, IsEnding, last_flush_of, flush_after, AreStoresAt, TakesBytes, Reports, ReportsKind}
 use Rattle.pmt_lines.specs.LineFindings.{IsLineFinding, AreLineFindings}
-use Rattle.pmt_lines.specs.Scans.{IsEnding, last_flush_of, flush_after, AreStoresAt, TakesBytes, Reports, ReportsKind}
 use Rattle.pmt_lines.proofs.RunLemmas.{kind-within}
 use Rattle.pmt_lines.proofs.ScanLemmas.{IsScan, scan-over, scan-kind, flush-over, flush-kind}
 use Rattle.pmt_lines.proofs.FindingLists.{has-append, has-left, has-right, ordered-append}

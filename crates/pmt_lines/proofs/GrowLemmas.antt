@@ -11,9 +11,7 @@ use Rattle.pmt_taking.proofs.GrownLemmas.{length-grown, event-old, history-old, 
 use Rattle.pmt_lines.specs.declared.step.StepKind.{StepKind}
 use Rattle.pmt_lines.specs.declared.step.StepKind.TheVariants.{Store, Flush, Clflush, Fence}
 use Rattle.pmt_lines.specs.declared.step.Step.{Step}
-use Rattle.pmt_lines.specs.Steps.{LineWork, last_number, with_step}
-use Rattle.pmt_lines.specs.Jobs.{IsKind, IsStepOf, Touches, ByStore, ByFlush, ByClflush, ByFence, IsWalkFrom, EachTouches, IsThreadKind, IsThreadStep, IsFlushOrFence, AFlush, AFence, IsThreadJobOf}
-use Rattle.pmt_lines.specs.Splitting.{IsLeanJob}
+use Rattle.pmt_lines.specs.Jobs.{LineWork, last_number, with_step, IsKind, IsStepOf, Touches, ByStore, ByFlush, ByClflush, ByFence, IsWalkFrom, EachTouches, IsThreadKind, IsThreadStep, IsFlushOrFence, AFlush, AFence, IsThreadJobOf, IsLeanJob}
 use Rattle.pmt_lines.proofs.RunLemmas.{kind-within}
 
 -- steps of one walk are steps of another that goes on

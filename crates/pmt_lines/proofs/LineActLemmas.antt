@@ -6,8 +6,7 @@ use Rattle.pmt_model.specs.Machine.{Act, Stores, Flushes, Clflushes, Fences, Ass
 use Rattle.pmt_model.specs.Traces.{Recording, IsAct, history, has_line, with_line, lines_of}
 use Rattle.pmt_model.specs.Fronts.{open_mark}
 use Rattle.pmt_laws.proofs.Histories.{act-within, act-unique}
-use Rattle.pmt_lines.specs.Jobs.{Touches, ByStore, ByFlush, ByClflush, ByFence}
-use Rattle.pmt_lines.specs.Splitting.{IsLeanJob}
+use Rattle.pmt_lines.specs.Jobs.{Touches, ByStore, ByFlush, ByClflush, ByFence, IsLeanJob}
 use Rattle.pmt_taking.proofs.AppearLemmas.{IsOnLine, absent-act, absent-before, appears}
 
 -- it matters to that line

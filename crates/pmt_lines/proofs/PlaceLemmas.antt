@@ -12,8 +12,7 @@ use Rattle.indexmap.specs.IndexSet.{insert_key}
 use Rattle.pmt_model.specs.Traces.{has_line, with_line}
 use Rattle.pmt_taking.proofs.AppearLemmas.{has_line-push}
 use Rattle.pmt_lines.specs.declared.step.Step.{Step}
-use Rattle.pmt_lines.specs.Steps.{LineWork, last_number, with_step}
-use Rattle.pmt_lines.specs.Splitting.{line_in, with_job, TakesOnLine, EndBefore, EndsAt}
+use Rattle.pmt_lines.specs.Jobs.{LineWork, last_number, with_step, line_in, with_job, TakesOnLine, EndBefore, EndsAt}
 use Rattle.pmt_lines.proofs.StepLemmas.{last_number-push}
 
 -- lists of lists of places
@@ -119,10 +118,6 @@ takes_on_line l s place keys jobs k same distinct stored equal =
         differ j place 0 before (omega (arith, long, within)) (sym (line-at (with_job l keys jobs) (with_line l keys) j d lines h) ∙ e ∙ sym at_place)
     apart j d h other e (inr (inr after)) =
         differ place j 0 after (omega (arith, long, h)) (at_place ∙ sym e ∙ line-at (with_job l keys jobs) (with_line l keys) j d lines h)
-
--- no fence at any place yet
-pub ends-none : (s : Step) (old : List LineWork) → EndsAt [] s old old
-ends-none s old = record { same_length = refl; each = λ k d h. refl }
 
 module _ (places : List ℕ) (s : Step) (old mid : List LineWork) (place : ℕ) (d : LineWork) (ends : EndsAt places s old mid) (within : place < length old) (before : EndBefore s.number old) where
   -- the job at the place has no such fence yet: it gets one

@@ -14,7 +14,7 @@ use Rattle.pmt_laws.proofs.Histories.{act-unique, history-act}
 use Rattle.pmt_laws.proofs.RedundantLemmas.{redundant_flush_by_fronts, redundant_clflush_by_fronts}
 use Rattle.pmt_marks.specs.Lines.{Line, Follows, mark_in}
 use Rattle.pmt_lines.specs.LineFindings.{IsLineFinding}
-use Rattle.pmt_lines.specs.Scans.{found_if, is_flush_covered}
+use Rattle.pmt_lines.specs.Jobs.{found_if, is_flush_covered}
 use Rattle.pmt_lines.proofs.FindingLists.{has-if, if-has, if-ordered}
 
 -- The findings of line l that are reported at event i, in report order, and no others.

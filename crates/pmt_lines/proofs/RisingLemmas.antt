@@ -6,7 +6,7 @@ use Rattle.std.proofs.lemmas.List.{map-append}
 use Rattle.pmt_model.specs.declared.finding.Finding.{Finding}
 use Rattle.pmt_model.specs.declared.finding.Finding.TheVariants.{Overwritten}
 use Rattle.pmt_model.specs.Selections.{IsRising, Has}
-use Rattle.pmt_lines.specs.Scans.{IsAmong, IsNoneAbove, IsNextAbove, PushesOverwritten, overwritten_by}
+use Rattle.pmt_lines.specs.Jobs.{IsAmong, IsNextAbove, overwritten_by}
 
 -- a greater number at the end keeps the order
 pub rising-push : (low : ℕ) (xs : List ℕ) (y : ℕ) → IsRising low xs → low < y → ((j : ℕ) → Has xs j → j < y) → IsRising low (xs ++ y ∷ [])
@@ -34,15 +34,6 @@ pub record PushesUpTo (old new : List Finding) (numbers : List ℕ) (flush later
   pub pushed : new ≡ old ++ overwritten_by later above
   pub started : flush ≤ low
 
-pub pushes-start : (old : List Finding) (numbers : List ℕ) (flush later : ℕ) → old ≡ old ++ [] → PushesUpTo old old numbers flush later flush
-pushes-start old numbers flush later same = record {
-  above = [];
-  rising = tt;
-  just = λ j. (λ none. absurd none, λ x. omega (arith, x.0, x.1));
-  pushed = same;
-  started = omega arith;
-}
-
 -- one more is told
 pub pushes-next : (old new newer : List Finding) (numbers : List ℕ) (flush later low next : ℕ) → PushesUpTo old new numbers flush later low → IsNextAbove low numbers next → newer ≡ new ++ Overwritten next later ∷ [] → PushesUpTo old newer numbers flush later next
 pushes-next old new newer numbers flush later low next p it more = record {
@@ -67,17 +58,3 @@ pushes-next old new newer numbers flush later low next p it more = record {
 
     from : (j : ℕ) → (flush < j) × (j ≤ next) × IsAmong numbers j → Has (p.above ++ next ∷ []) j
     from j x = again j x.0 x.1 x.2 (cases_lt low j)
-
--- all are told
-pub pushes-end : (old new : List Finding) (numbers : List ℕ) (flush later low : ℕ) → PushesUpTo old new numbers flush later low → IsNoneAbove low numbers → PushesOverwritten old new numbers flush later
-pushes-end old new numbers flush later low p none = record {
-  above = p.above;
-  are_above = record {
-    rising = p.rising;
-    just = λ j. (λ has. let x = (p.just j).0 has in (x.0, x.2), λ x. (p.just j).1 (x.0, within j x.1, x.1));
-  };
-  pushed = p.pushed;
-}
-  where
-    within : (j : ℕ) → IsAmong numbers j → j ≤ low
-    within j x = omega (arith, none.none x.0 x.1, x.2)

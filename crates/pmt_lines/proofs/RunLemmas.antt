@@ -8,14 +8,11 @@ use Rattle.pmt_model.specs.Fronts.{open_mark, front_at}
 use Rattle.pmt_laws.proofs.Histories.{history-act, history-step, act-within, front-mono}
 use Rattle.pmt_marks.specs.Lines.{Line, Follows}
 use Rattle.pmt_marks.specs.Others.{LeavesLineUnchanged}
-use Rattle.pmt_marks.proofs.FollowLemmas.{follows-start, others_leave}
-use Rattle.pmt_lines.specs.Raises.{Raise, RaisesBetween, IsRaises}
+use Rattle.pmt_marks.proofs.FollowLemmas.{others_leave}
+use Rattle.pmt_lines.specs.Jobs.{Raise, RaisesBetween, IsRaises, AreSteps, IsKind, IsStepOf, Touches, ByStore, ByFlush, ByClflush, ByFence, IsWalkFrom, IsJobOf, TakesKind, TakesStep}
 use Rattle.pmt_lines.specs.declared.step.StepKind.{StepKind}
 use Rattle.pmt_lines.specs.declared.step.StepKind.TheVariants.{Store, Flush, Clflush, Fence}
 use Rattle.pmt_lines.specs.declared.step.Step.{Step}
-use Rattle.pmt_lines.specs.Steps.{AreSteps}
-use Rattle.pmt_lines.specs.Jobs.{IsKind, IsStepOf, Touches, ByStore, ByFlush, ByClflush, ByFence, IsWalkFrom, IsJobOf}
-use Rattle.pmt_lines.specs.Running.{TakesKind, TakesStep}
 
 -- an event that doesn't matter to the line concerns other lines alone
 pub leaves-line_unchanged : (T : Recording) (l n : ℕ) (a : Act) → IsAct T (suc n) a → ¬ Touches T l (suc n) → LeavesLineUnchanged l (history T n) a
@@ -90,15 +87,6 @@ pub record Running (l : ℕ) (steps rest : List Step) (line : Line) (raises : Li
   pub rising : AreSteps low rest
   pub counted : line.count ≤ low
   pub ran : (T : Recording) → IsJobOf T l steps → Ran T l low rest line raises
-
-pub running-start : (l : ℕ) (steps : List Step) → AreSteps 0 steps → Running l steps steps (record { count = 0; front = 0; marks = [] }) []
-running-start l steps rising =
-    record {
-      low = 0;
-      rising = rising;
-      counted = omega arith;
-      ran = λ T job. record { rest = job; within = omega arith; follows = follows-start l; told = (omega arith, λ n above below. let e : n ≡ 0 = omega arith in ap (front_at T l) e) };
-    }
 
 -- a step's number is that of an event
 pub kind-within : (T : Recording) (l n t : ℕ) (kind : StepKind) → IsKind T l n t kind → (1 ≤ n) × (n ≤ length T.events)

@@ -11,9 +11,7 @@ use Rattle.pmt_marks.specs.Lines.{Follows}
 use Rattle.pmt_lines.specs.declared.step.StepKind.{StepKind}
 use Rattle.pmt_lines.specs.declared.step.StepKind.TheVariants.{Store, Flush, Clflush, Fence}
 use Rattle.pmt_lines.specs.declared.line_findings.Scan.{Scan}
-use Rattle.pmt_lines.specs.Jobs.{IsKind, Touches, ByStore, ByFlush, ByClflush}
-use Rattle.pmt_lines.specs.Running.{TakesKind}
-use Rattle.pmt_lines.specs.Scans.{StoresBytes, TakesBytes, flush_after}
+use Rattle.pmt_lines.specs.Jobs.{IsKind, Touches, ByStore, ByFlush, ByClflush, TakesKind, StoresBytes, TakesBytes, flush_after}
 use Rattle.pmt_lines.proofs.RunLemmas.{follows-over, follows-kind, kind-within}
 use Rattle.pmt_lines.proofs.TraceLemmas.{size-of_format, IsStoreOf, store-of_trace, byte-line, same-block, byte-from_writes, writes-from_byte}
 

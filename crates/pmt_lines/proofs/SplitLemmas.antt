@@ -10,9 +10,7 @@ use Rattle.pmt_model.specs.Traces.{Recording, act, IsAct, history, has_line, wit
 use Rattle.pmt_model.specs.Pushing.{with_event}
 use Rattle.pmt_model.specs.Fronts.{open_mark}
 use Rattle.pmt_lines.specs.declared.step.Step.{Step}
-use Rattle.pmt_lines.specs.Steps.{LineWork, with_step}
-use Rattle.pmt_lines.specs.Jobs.{IsStepOf, Touches, IsThreadJobOf}
-use Rattle.pmt_lines.specs.Splitting.{IsLeanJob, line_in, places_of, with_place, OpenEach, ArePlaces, IsSplitting, with_job, TakesOnLine}
+use Rattle.pmt_lines.specs.Jobs.{LineWork, with_step, IsStepOf, Touches, IsThreadJobOf, IsLeanJob, line_in, places_of, with_place, OpenEach, ArePlaces, IsSplitting, with_job, TakesOnLine}
 use Rattle.pmt_taking.proofs.GrownLemmas.{length-grown, history-new, act-new}
 use Rattle.pmt_lines.proofs.GrowLemmas.{job-stays, job-takes}
 use Rattle.pmt_lines.proofs.PlaceLemmas.{has_line-push_same, has_line-push_other, lines-with_job}
@@ -30,9 +28,6 @@ has_line-beyond n (x ∷ places) below =
 
 -- the jobs, once there is one for line l
 module _ (T : Recording) (l : ℕ) (keys : List ℕ) (lines : List LineWork) (opens : List (List ℕ)) (fences : List Step) (so_far : IsSplitting T keys lines opens fences) where
-  at_end : List Act
-  at_end = history T (length T.events)
-
   absent : has_line l keys ≡ false → has_line l (lines_of (history T (length T.events))) ≡ false
   absent e = ap (has_line l) (sym so_far.known) ∙ e
 

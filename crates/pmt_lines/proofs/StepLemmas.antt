@@ -5,7 +5,7 @@ use Rattle.std.proofs.lemmas.Option.{none-some, same_Some}
 use Rattle.pmt_model.specs.Traces.{event_limit}
 use Rattle.pmt_lines.specs.declared.step.StepKind.TheVariants.{Store}
 use Rattle.pmt_lines.specs.declared.step.Step.{Step}
-use Rattle.pmt_lines.specs.Steps.{IsStepKind, AreSteps, last_number}
+use Rattle.pmt_lines.specs.Jobs.{IsStepKind, AreSteps, last_number}
 
 -- a later step keeps the order
 pub are_steps-push : (low : ℕ) (steps : List Step) (s : Step) → AreSteps low steps → last_number low steps < s.number → s.number ≤ event_limit → IsStepKind s.kind → AreSteps low (steps ++ s ∷ [])

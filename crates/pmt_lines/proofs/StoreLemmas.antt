@@ -17,7 +17,7 @@ use Rattle.pmt_laws.proofs.OverwrittenLemmas.{overwritten_by_numbers, last_store
 use Rattle.pmt_lines.specs.declared.line_findings.Scan.{Scan}
 use Rattle.pmt_lines.specs.declared.line_findings.Ending.{Ending}
 use Rattle.pmt_lines.specs.LineFindings.{IsLineFinding}
-use Rattle.pmt_lines.specs.Scans.{IsEnding, IsAmong, AreAbove, AreStoresAt, found_if, overwritten_by, never_persisted_of}
+use Rattle.pmt_lines.specs.Jobs.{IsEnding, IsAmong, AreAbove, AreStoresAt, found_if, overwritten_by, never_persisted_of}
 use Rattle.pmt_lines.proofs.TraceLemmas.{IsSize, size-of_format, store-of_trace, byte-line, byte-from_writes, writes-from_byte}
 use Rattle.pmt_lines.proofs.ScanLemmas.{IsScan, IsTable}
 use Rattle.pmt_lines.proofs.FindingLists.{has-append, has-left, has-right, ordered-append, has-overwritten, overwritten-has, overwritten-ordered, has-if, if-has, if-ordered}

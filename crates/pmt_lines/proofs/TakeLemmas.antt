@@ -9,9 +9,7 @@ use Rattle.pmt_model.specs.Fronts.{open_mark}
 use Rattle.pmt_lines.specs.declared.step.StepKind.{StepKind}
 use Rattle.pmt_lines.specs.declared.step.StepKind.TheVariants.{Store, Flush, Clflush, Fence}
 use Rattle.pmt_lines.specs.declared.step.Step.{Step}
-use Rattle.pmt_lines.specs.Steps.{LineWork, last_number}
-use Rattle.pmt_lines.specs.Jobs.{IsKind, IsBy}
-use Rattle.pmt_lines.specs.Splitting.{IsSplitting, IsAccess, with_job, with_place, places_of, OpenEach, TakesOnLine, EndBefore, EndsAt}
+use Rattle.pmt_lines.specs.Jobs.{LineWork, last_number, IsKind, IsBy, IsSplitting, IsAccess, with_job, with_place, places_of, OpenEach, TakesOnLine, EndBefore, EndsAt}
 use Rattle.pmt_taking.proofs.GrownLemmas.{event-new, act-new}
 use Rattle.pmt_lines.proofs.GrowLemmas.{thread_job-stays, thread_job-takes, last-lean, last-thread}
 use Rattle.pmt_taking.proofs.AppearLemmas.{IsOnLine}

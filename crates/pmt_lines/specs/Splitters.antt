@@ -2,7 +2,7 @@
 use Rattle.std.specs.Prelude.{◌≡◌, length}
 use Rattle.pmt_model.specs.Traces.{Recording}
 use Rattle.pmt_lines.specs.declared.splitter.Splitter.{Splitter}
-use Rattle.pmt_lines.specs.Splitting.{IsSplitting}
+use Rattle.pmt_lines.specs.Jobs.{IsSplitting}
 
 -- It has taken the events of this trace, and no others.
 pub record HasTaken (T : Recording) (s : Splitter) : Type 0 where

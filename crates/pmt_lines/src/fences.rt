@@ -1,6 +1,6 @@
 //! The fences without flush.
 ghost use Rattle.std.specs.Prelude.{◌≡◌, IfOk};
-ghost use Rattle.pmt_lines.specs.Fences.{IsThreadResult};
+ghost use Rattle.pmt_lines.specs.Jobs.{IsThreadResult};
 
 use crate::thread_job::ThreadJob;
 use pmt_model::OutOfMemory;
@@ -15,7 +15,7 @@ pub struct ThreadResult {
 }
 
 impl Model for ThreadResult {
-    ghost use Rattle.pmt_lines.specs.Fences.{ThreadFound, IsThreadResult};
+    ghost use Rattle.pmt_lines.specs.Jobs.{ThreadFound, IsThreadResult};
 
     ghost Value = { ThreadFound };
 

@@ -1,7 +1,7 @@
 //! The job of one line: the events that matter to it.
 ghost use Rattle.std.specs.Prelude.{◌≡◌, ◌<◌, ◌≤◌, OnOk, OnErr, [], ◌∷◌, ◌++◌};
 ghost use Rattle.pmt_model.specs.Traces.{event_limit};
-ghost use Rattle.pmt_lines.specs.Steps.{IsStepKind, AreSteps, last_number, with_step};
+ghost use Rattle.pmt_lines.specs.Jobs.{IsStepKind, AreSteps, last_number, with_step};
 
 use crate::step::Step;
 use pmt_model::OutOfMemory;
@@ -16,7 +16,7 @@ pub struct LineJob {
 }
 
 impl Model for LineJob {
-    ghost use Rattle.pmt_lines.specs.Steps.{LineWork, AreSteps};
+    ghost use Rattle.pmt_lines.specs.Jobs.{LineWork, AreSteps};
 
     ghost Value = { LineWork };
 

@@ -1,9 +1,7 @@
 //! The findings of one line.
 ghost use Rattle.std.specs.Prelude.{◌≡◌, ℕ, ◌+◌, ◌%◌, ◌<◌, ◌≤◌, [], ◌∷◌, ◌++◌, replicate, IfOk, OnOk, MatchOption};
 ghost use Rattle.pmt_model.specs.Traces.{event_limit};
-ghost use Rattle.pmt_lines.specs.Steps.{IsStepKind};
-ghost use Rattle.pmt_lines.specs.Running.{TakesStep};
-ghost use Rattle.pmt_lines.specs.Scans.{found_if, last_flush_of, flush_after, is_flush_covered, FindsBefore, IsNextAbove, IsNoneAbove, PushesOverwritten, Reports, ReportsStore, TakesBytes};
+ghost use Rattle.pmt_lines.specs.Jobs.{IsStepKind, TakesStep, found_if, last_flush_of, flush_after, is_flush_covered, FindsBefore, IsNextAbove, IsNoneAbove, PushesOverwritten, Reports, ReportsStore, TakesBytes};
 
 use crate::job::LineJob;
 use crate::last_stores::LastStores;

@@ -1,6 +1,6 @@
 //! Of each thread, where the lines stand that it has flushed since its last fence.
 ghost use Rattle.std.specs.Prelude.{◌≡◌, ℕ, [], length, slice_set, IfOk, OnOk};
-ghost use Rattle.pmt_lines.specs.Splitting.{places_of, with_place};
+ghost use Rattle.pmt_lines.specs.Jobs.{places_of, with_place};
 
 use pmt_model::OutOfMemory;
 use std::alloc::Global;

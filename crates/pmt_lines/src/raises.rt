@@ -1,8 +1,7 @@
 //! The run of a line's job: where its front rises, and what is found.
 ghost use Rattle.std.specs.Prelude.{◌≡◌, ◌+◌, ◌<◌, ◌≤◌, ◌↔◌, IsTrue, IfOk, OnOk};
 ghost use Rattle.pmt_model.specs.Traces.{event_limit};
-ghost use Rattle.pmt_lines.specs.Running.{TakesStep};
-ghost use Rattle.pmt_lines.specs.Raises.{IsLineResult};
+ghost use Rattle.pmt_lines.specs.Jobs.{TakesStep, IsLineResult};
 
 use crate::job::LineJob;
 use crate::line_findings::{Ending, last_flush, line_findings};
@@ -21,7 +20,7 @@ pub struct LineResult {
 }
 
 impl Model for LineResult {
-    ghost use Rattle.pmt_lines.specs.Raises.{LineFound, IsLineResult};
+    ghost use Rattle.pmt_lines.specs.Jobs.{LineFound, IsLineResult};
 
     ghost Value = { LineFound };
 

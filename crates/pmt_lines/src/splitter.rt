@@ -6,8 +6,7 @@ ghost use Rattle.pmt_model.specs.declared.event.Event.{Event};
 ghost use Rattle.pmt_model.specs.Machine.{Flushes, Fences, Asserts};
 ghost use Rattle.pmt_model.specs.Pushing.{empty, with_event};
 ghost use Rattle.pmt_model.specs.Traces.{Recording, event_limit, act};
-ghost use Rattle.pmt_lines.specs.Steps.{IsStepKind};
-ghost use Rattle.pmt_lines.specs.Splitting.{line_in, IsSplit, IsAccess, TakesOnLine, EndBefore, EndsAt};
+ghost use Rattle.pmt_lines.specs.Jobs.{IsStepKind, line_in, IsSplit, IsAccess, TakesOnLine, EndBefore, EndsAt};
 ghost use Rattle.pmt_lines.specs.Splitters.{HasTaken, IsTaking};
 
 use crate::job::LineJob;

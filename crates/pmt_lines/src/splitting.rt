@@ -4,7 +4,7 @@ ghost use Rattle.pmt_model.specs.Pushing.{with_event};
 ghost use Rattle.pmt_model.specs.Traces.{event_limit, IsEventIn};
 ghost use Rattle.pmt_text.specs.Coming.{ComesWhole};
 ghost use Rattle.pmt_text.specs.Sources.{CountsReads};
-ghost use Rattle.pmt_lines.specs.Splitting.{IsSplit};
+ghost use Rattle.pmt_lines.specs.Jobs.{IsSplit};
 ghost use Rattle.pmt_lines.specs.Splitters.{HasTaken};
 ghost use Rattle.pmt_taking.specs.Sourcing.{IsFaultOf, TellsSplit, TellsWhole, told_by};
 

@@ -15,7 +15,7 @@ pub enum StepKind {
 }
 
 impl StepKind {
-    ghost use Rattle.pmt_lines.specs.Steps.{is_flush, is_fence};
+    ghost use Rattle.pmt_lines.specs.Jobs.{is_flush, is_fence};
 
     // Whether it is a clwb or a clflushopt.
     pub(crate) fn is_flush(self) -> bool

@@ -1,7 +1,7 @@
 //! The job of the fences: all flushes and fences.
 ghost use Rattle.std.specs.Prelude.{◌≡◌, ◌<◌, ◌≤◌, OnOk, OnErr, [], ◌∷◌, ◌++◌};
 ghost use Rattle.pmt_model.specs.Traces.{event_limit};
-ghost use Rattle.pmt_lines.specs.Steps.{IsStepKind, AreSteps, last_number};
+ghost use Rattle.pmt_lines.specs.Jobs.{IsStepKind, AreSteps, last_number};
 
 use crate::step::Step;
 use pmt_model::OutOfMemory;
@@ -17,7 +17,7 @@ pub struct ThreadJob {
 impl Model for ThreadJob {
     ghost use Rattle.std.specs.Prelude.{List};
     ghost use Rattle.pmt_lines.specs.declared.step.Step.{Step};
-    ghost use Rattle.pmt_lines.specs.Steps.{AreSteps};
+    ghost use Rattle.pmt_lines.specs.Jobs.{AreSteps};
 
     ghost Value = { List Step };
 

@@ -1,12 +1,11 @@
 -- How the state of a line goes on following it, act by act.
-use Rattle.std.proofs.Common.{◌≡◌, ◌≢◌, ℕ, suc, ◌+◌, ◌≤◌, ◌⊎◌, inl, inr, Bool, true, false, List, [], ◌∷◌, Some, None, refl, sym, ap, ◌∙◌, arith}
+use Rattle.std.proofs.Common.{◌≡◌, ◌≢◌, ℕ, ◌≤◌, ◌⊎◌, inl, inr, Bool, true, false, List, [], ◌∷◌, Some, None, refl, sym, ap, ◌∙◌, arith}
 use Rattle.std.specs.Prelude.{◌==◌, ◌&&◌, if◌then◌else◌, max, unwrap_or}
 use Rattle.std.proofs.lemmas.Bool.{eq-eqb, ne_eqb, eqb-true, cases_eq}
-use Rattle.pmt_model.specs.Values.{Written}
 use Rattle.pmt_model.specs.Machine.{Act, Stores, Flushes, Clflushes, Fences, Asserts, count}
 use Rattle.pmt_model.specs.Fronts.{mark, open_mark, front}
 use Rattle.pmt_laws.proofs.Histories.{mark-le-count}
-use Rattle.pmt_marks.specs.Lines.{Line, Follows, mark_in, Marks, Completes}
+use Rattle.pmt_marks.specs.Lines.{Line, Follows, mark_in, Completes}
 use Rattle.pmt_marks.specs.Others.{LineStaysUnchanged}
 
 -- a thread's last mark is open, or in the front
@@ -48,16 +47,6 @@ front-fence t l h = go (mark-settled t l h)
     go (inl e) = rw e refl
     go (inr s) = rw s.0 (omega (arith, s.1))
 
--- the marks after an act of another thread, and after one of the thread
-open_mark-flush : (t u l : ℕ) (h : List Act) → u ≢ t → open_mark u l (Flushes t l ∷ h) ≡ open_mark u l h
-open_mark-flush t u l h other = let e : (t == u) ≡ false = ne_eqb t u (λ same. other (sym same)) in rw e refl
-
-open_mark-own_flush : (t l : ℕ) (h : List Act) → open_mark t l (Flushes t l ∷ h) ≡ Some (count l h)
-open_mark-own_flush t l h =
-    let thread : (t == t) ≡ true = eq-eqb t t refl in
-    let line : (l == l) ≡ true = eq-eqb l l refl in
-    rw (thread, line) refl
-
 open_mark-fence : (t u l : ℕ) (h : List Act) → u ≢ t → open_mark u l (Fences t ∷ h) ≡ open_mark u l h
 open_mark-fence t u l h other = let e : (t == u) ≡ false = ne_eqb t u (λ same. other (sym same)) in rw e refl
 
@@ -67,29 +56,6 @@ open_mark-own_fence t l h = let e : (t == t) ≡ true = eq-eqb t t refl in rw e 
 -- before the first act
 pub follows-start : (l : ℕ) → Follows l [] (record { count = 0; front = 0; marks = [] })
 follows-start l = record { counts = refl; fronts = refl; marks = λ t. refl }
-
--- after a store to the line
-pub follows-store : (l : ℕ) (w : Written) (h : List Act) (old : Line) → Follows l h old → Follows l (Stores l w ∷ h) (record { count = old.count + 1; front = old.front; marks = old.marks })
-follows-store l w h old f =
-    let e : (l == l) ≡ true = eq-eqb l l refl in
-    let more : old.count + 1 ≡ suc (count l h) = omega (arith, f.counts) in
-    record { counts = rw e more; fronts = f.fronts; marks = f.marks }
-
--- after a flush of the line
-pub follows-flush : (l t : ℕ) (h : List Act) (old new : Line) → Marks t old new → Follows l h old → Follows l (Flushes t l ∷ h) new
-follows-flush l t h old new m f = record { counts = m.count ∙ f.counts; fronts = m.front ∙ f.fronts; marks = λ u. go u (cases_eq u t) }
-  where
-    go : (u : ℕ) → (u ≡ t) ⊎ (u ≡ t → ⊥) → mark_in u new.marks ≡ open_mark u l (Flushes t l ∷ h)
-    go u (inl same) =
-        ap (λ v. mark_in v new.marks) same ∙ m.marks.mark ∙ ap (λ (n : ℕ). Some n) f.counts ∙ sym (open_mark-own_flush t l h)
-        ∙ ap (λ v. open_mark v l (Flushes t l ∷ h)) (sym same)
-    go u (inr other) = m.marks.others u other ∙ f.marks u ∙ sym (open_mark-flush t u l h other)
-
--- after a clflush of the line
-pub follows-clflush : (l : ℕ) (h : List Act) (old : Line) → Follows l h old → Follows l (Clflushes l ∷ h) (record { count = old.count; front = old.count; marks = old.marks })
-follows-clflush l h old f =
-    let e : (l == l) ≡ true = eq-eqb l l refl in
-    record { counts = f.counts; fronts = rw e f.counts; marks = f.marks }
 
 -- after a fence
 pub follows-fence : (l t : ℕ) (h : List Act) (old new : Line) → Completes t old new → Follows l h old → Follows l (Fences t ∷ h) new

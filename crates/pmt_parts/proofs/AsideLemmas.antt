@@ -6,8 +6,7 @@ use Rattle.pmt_model.specs.Selections.{cut, matching_place}
 use Rattle.pmt_laws.proofs.Histories.{act-within}
 use Rattle.pmt_laws.proofs.CutLemmas.{place-mono}
 use Rattle.pmt_laws.proofs.OverwrittenLemmas.{IsLastWriter, last_store_number-is}
-use Rattle.pmt_slices.specs.Scanning.{IsUnwritten}
-use Rattle.pmt_slices.specs.Slices.{IsSubsequence}
+use Rattle.pmt_slices.specs.Slices.{IsUnwritten, IsSubsequence}
 use Rattle.pmt_slices.proofs.CuttingLemmas.{kept-event, kept-act, act-origin, placed-later, placed-by, later-origin}
 use Rattle.pmt_asked.specs.declared.ignoring.ByteRange.{ByteRange}
 use Rattle.pmt_parts.specs.Making.{IsPartBut}

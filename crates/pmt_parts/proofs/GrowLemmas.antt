@@ -8,22 +8,11 @@ use Rattle.pmt_model.specs.declared.event.Event.{Event}
 use Rattle.pmt_model.specs.Traces.{Recording, event}
 use Rattle.pmt_model.specs.Selections.{Has, cut}
 use Rattle.pmt_model.specs.Pushing.{with_event}
-use Rattle.pmt_laws.proofs.Histories.{act-within}
-use Rattle.pmt_model.specs.Machine.{Stores, Flushes}
 use Rattle.pmt_asked.specs.declared.ignoring.ByteRange.{ByteRange}
 use Rattle.pmt_parts.specs.declared.part.Part.{Part}
 use Rattle.pmt_parts.specs.Making.{IsTaken, IsPartBut, IsPartOf, ComesNext}
 use Rattle.pmt_parts.proofs.PartsCarryLemmas.{by-end}
 use Rattle.pmt_parts.proofs.ChosenLemmas.{has-both, rising-both}
-
--- before the first event nothing is carried
-pub part-none : (T : Recording) (ranges : List ByteRange) → IsPartBut T ranges 0 0 []
-part-none T ranges = record { order = omega arith; within = omega arith; rising = tt; just = λ k. (λ has. absurd has, none k) }
-  where
-    none : (k : ℕ) → IsTaken T ranges 0 k ⊎ ((0 < k) × (k ≤ 0)) → ⊥
-    none k (inl (inl x, told)) = omega (arith, x.by_now, (act-within T k (Stores x.line x.what) x.is_store).0)
-    none k (inl (inr x, told)) = omega (arith, x.by_now, (act-within T k (Flushes x.thread x.line) x.is_flush).0)
-    none k (inr x) = omega (arith, x.0, x.1)
 
 pub part-more : (T : Recording) (ranges : List ByteRange) (q r : ℕ) (K : List ℕ) → IsPartBut T ranges q r K → suc r ≤ length T.events → IsPartBut T ranges q (suc r) (K ++ suc r ∷ [])
 part-more T ranges q r K part within = record {

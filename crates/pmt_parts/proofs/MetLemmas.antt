@@ -1,7 +1,6 @@
 -- One more event is met.
-use Rattle.std.proofs.Common.{◌≡◌, ℕ, zero, suc, ◌<◌, ◌≤◌, inl, inr, true, List, [], ◌∷◌, ◌++◌, length, get_or, Some, refl, sym, ap, subst, ◌∙◌, true≢false, arith}
-use Rattle.std.specs.Prelude.{◌⊎◌, ◌↔◌, nat_eq, slice_get}
-use Rattle.std.specs.List.{list_any}
+use Rattle.std.proofs.Common.{◌≡◌, ℕ, zero, suc, ◌<◌, ◌≤◌, inl, inr, true, List, [], ◌∷◌, ◌++◌, length, get_or, Some, refl, sym, ap, subst, ◌∙◌, arith}
+use Rattle.std.specs.Prelude.{◌⊎◌, ◌↔◌, slice_get}
 use Rattle.std.proofs.lemmas.Bool.{cases_lt}
 use Rattle.std.proofs.lemmas.Option.{slice_get-get_or, slice_get_within}
 use Rattle.pmt_model.specs.declared.event.Event.{Event}
@@ -13,16 +12,10 @@ use Rattle.pmt_model.specs.Traces.{Recording, IsAct, act_of}
 use Rattle.pmt_model.specs.Selections.{Has}
 use Rattle.pmt_model.specs.Assertions.{InSpan}
 use Rattle.pmt_laws.proofs.Histories.{act-unique}
-use Rattle.pmt_slices.specs.Scanning.{IsUnwritten}
+use Rattle.pmt_slices.specs.Slices.{IsUnwritten}
 use Rattle.pmt_parts.specs.declared.aside.Met.{Met}
 use Rattle.pmt_parts.specs.Aside.{IsOrderedWith, IsOlderOrdered, HasByte, HasOp, IsWritten, IsMet}
 use Rattle.pmt_parts.proofs.ChosenLemmas.{has-both}
-
-pub met-none : (T : Recording) (m before : ℕ) (s : Met) → s.written.keys ≡ [] → s.aside.items ≡ [] → IsMet T m before m s
-met-none T m before s written aside = record {
-  bytes = λ b. (λ h. absurd (true≢false (sym h ∙ ap (λ xs. list_any (nat_eq b) xs) written)), λ x. absurd (omega (arith, x.after, x.by_now)));
-  aside = λ i. (λ has. absurd (subst (λ xs. Has xs i) aside has), λ x. absurd (omega (arith, x.0.after, x.1)));
-}
 
 -- event k stores to the byte at b
 abbrev pub WritesAt : Recording → ℕ → ℕ → Type 0

@@ -1,13 +1,12 @@
 -- Lines at the front of some bytes.
-use Rattle.std.proofs.Common.{◌≡◌, ◌≢◌, eq-eqb, ℕ, suc, ◌+◌, ◌-◌, ◌<◌, ◌≤◌, ◌⊎◌, inl, inr, Bool, true, false, List, [], ◌∷◌, ◌++◌, length, length-append, append-nil, take, drop, slice_range, get_or, Option, None, Some, refl, sym, ap, subst, ◌∙◌, arith}
+use Rattle.std.proofs.Common.{◌≡◌, ◌≢◌, eq-eqb, ℕ, suc, ◌+◌, ◌-◌, ◌<◌, ◌≤◌, ◌⊎◌, inr, Bool, true, false, List, [], ◌∷◌, ◌++◌, length, take, drop, slice_range, get_or, Option, None, Some, refl, sym, ap, subst, ◌∙◌, arith}
 use Rattle.std.specs.Prelude.{◌==◌, if◌then◌else◌}
-use Rattle.std.specs.Io.KnownBytes.{Consumes, IsAtEnd, Keeps, prepend_known}
-use Rattle.std.proofs.lemmas.Bool.{cases_lt, ne_eqb}
+use Rattle.std.specs.Io.KnownBytes.{Consumes, Keeps, prepend_known}
+use Rattle.std.proofs.lemmas.Bool.{ne_eqb}
 use Rattle.std.proofs.lemmas.List.{append_assoc, length-take, take-append-drop}
-use Rattle.pmt_text.specs.Coming.{byte_limit}
 use Rattle.pmt_text.proofs.PieceLemmas.{slice_range-skip, slice_range-taken}
 use Rattle.std.proofs.Math.Seq.{take-suc}
-use Rattle.pmt_parts.specs.Cutting.{line_count, EndsLine, IsFront, IsPiece}
+use Rattle.pmt_parts.specs.Cutting.{line_count, EndsLine, IsFront}
 
 line_count-cons : (b : ℕ) (xs : List ℕ) → line_count (b ∷ xs) ≡ (if b == 10 then 1 else 0) + line_count xs
 line_count-cons b xs = go (b == 10)
@@ -38,27 +37,6 @@ pub prepend-none : (known : Option (List ℕ)) → prepend_known [] known ≡ kn
 prepend-none None = refl
 prepend-none (Some xs) = refl
 
-pub keeps-same : (known : Option (List ℕ)) → Keeps known known
-keeps-same None = tt
-keeps-same (Some xs) = refl
-
--- what is read is held
-pub fill-keeps : (held bytes : List ℕ) (old new : Option (List ℕ)) → held ≡ [] → Consumes old new bytes → Keeps (prepend_known held old) (prepend_known bytes new)
-fill-keeps held bytes None new empty reads = tt
-fill-keeps held bytes (Some xs) None empty reads = absurd reads
-fill-keeps held bytes (Some xs) (Some ys) empty reads = sym reads ∙ ap (λ hs. hs ++ xs) (sym empty)
-
--- the end
-pub fill-ends : (bytes : List ℕ) (new : Option (List ℕ)) → bytes ≡ [] → IsAtEnd new → IsAtEnd (prepend_known bytes new)
-fill-ends bytes None empty end = tt
-fill-ends bytes (Some xs) empty end = ap (λ bs. bs ++ xs) empty ∙ end
-
-pub kept-consumes : (a b c : Option (List ℕ)) (xs : List ℕ) → Keeps a b → Consumes b c xs → Consumes a c xs
-kept-consumes None b c xs keeps takes = tt
-kept-consumes (Some ws) None c xs keeps takes = absurd keeps
-kept-consumes (Some ws) (Some bs) None xs keeps takes = absurd takes
-kept-consumes (Some ws) (Some bs) (Some cs) xs keeps takes = sym keeps ∙ takes
-
 pub consumes-kept : (a b c : Option (List ℕ)) (xs : List ℕ) → Consumes a b xs → Keeps b c → Consumes a c xs
 consumes-kept None b c xs takes keeps = tt
 consumes-kept (Some ws) None c xs takes keeps = absurd takes
@@ -71,18 +49,9 @@ consumes-both (Some ws) None c xs ys first second = absurd first
 consumes-both (Some ws) (Some bs) None xs ys first second = absurd second
 consumes-both (Some ws) (Some bs) (Some cs) xs ys first second = first ∙ ap (λ zs. xs ++ zs) second ∙ sym (append_assoc xs ys cs)
 
-pub consumes-none : (a : Option (List ℕ)) → Consumes a a []
-consumes-none None = tt
-consumes-none (Some ws) = refl
-
 pub consumes-held : (old front new : List ℕ) (known : Option (List ℕ)) → old ≡ front ++ new → Consumes (prepend_known old known) (prepend_known new known) front
 consumes-held old front new None split = tt
 consumes-held old front new (Some xs) split = ap (λ hs. hs ++ xs) split ∙ append_assoc front new xs
-
-pub at-end-kept : (a b : Option (List ℕ)) → Keeps a b → IsAtEnd b → IsAtEnd a
-at-end-kept None b keeps end = tt
-at-end-kept (Some ws) None keeps end = absurd keeps
-at-end-kept (Some ws) (Some bs) keeps end = sym keeps ∙ end
 
 -- ---- Lines that are added to a piece
 
@@ -94,9 +63,6 @@ pub record IsAdded (old : Option (List ℕ)) (most left : ℕ) (before text : Li
   pub count : line_count piece + left ≡ most
   pub full : left ≡ 0 → (piece ≡ []) ⊎ EndsLine piece
 
-pub added-none : (old : Option (List ℕ)) (most : ℕ) (text : List ℕ) → IsAdded old most most text text old
-added-none old most text = record { piece = []; added = sym (append-nil text); next = consumes-none old; count = omega arith; full = λ none. inl refl }
-
 pub added-more : (old mid kept new : Option (List ℕ)) (most left lines : ℕ) (before text after held front : List ℕ) → IsAdded old most left before text mid → Keeps mid kept → Consumes kept new front →
     IsFront left held front lines → after ≡ text ++ front → IsAdded old most (left - lines) before after new
 added-more old mid kept new most left lines before text after held front so_far keeps takes found grown = record {
@@ -106,44 +72,6 @@ added-more old mid kept new most left lines before text after held front so_far 
   count = omega (arith, line_count-append so_far.piece front, so_far.count, found.count, found.few);
   full = λ none. let x = found.full (omega (arith, none, found.few)) in inr (so_far.piece ++ x.0, ap (λ xs. so_far.piece ++ xs) x.1 ∙ sym (append_assoc so_far.piece x.0 (10 ∷ [])));
 }
-
--- where no more bytes come, all that was added is a piece
-pub added-ended : (old mid new : Option (List ℕ)) (most left : ℕ) (before text : List ℕ) → IsAdded old most left before text mid → Keeps mid new → IsAtEnd new →
-    (piece : List ℕ) × (text ≡ before ++ piece) × IsPiece old most piece new
-added-ended old mid new most left before text so_far keeps end = (
-  so_far.piece,
-  so_far.added,
-  record {
-    next = consumes-kept old mid new so_far.piece so_far.next keeps;
-    lines = omega (arith, so_far.count);
-    full = λ all. so_far.full (omega (arith, all, so_far.count));
-    over = λ fewer. inl end;
-  },
-)
-
--- and so it is where all lines were added, or too many bytes
-pub added-done : (old new : Option (List ℕ)) (most left : ℕ) (before text : List ℕ) → IsAdded old most left before text new → (left ≡ 0) ⊎ (byte_limit < length text - length before) →
-    (piece : List ℕ) × (text ≡ before ++ piece) × IsPiece old most piece new
-added-done old new most left before text so_far done = (
-  so_far.piece,
-  so_far.added,
-  record {
-    next = so_far.next;
-    lines = omega (arith, so_far.count);
-    full = λ all. so_far.full (omega (arith, all, so_far.count));
-    over = λ fewer. elim done [
-      | inl none ↦ absurd (omega (arith, none, fewer, so_far.count))
-      | inr many ↦ let long : length text ≡ length before + length so_far.piece = ap length so_far.added ∙ length-append before so_far.piece in inr (omega (arith, many, long))
-    ];
-  },
-)
-
--- a front has some bytes
-pub front-some : (most lines : ℕ) (held front : List ℕ) → 0 < most → 0 < length held → IsFront most held front lines → 0 < length front
-front-some most lines held front some filled found = elim (cases_lt lines most) [
-  | inl fewer ↦ omega (arith, filled, ap length (found.over fewer))
-  | inr full ↦ let x = found.full (omega (arith, found.few, full)) in omega (arith, ap length x.1, length-append x.0 (10 ∷ []))
-]
 
 -- ---- Steps of the code
 

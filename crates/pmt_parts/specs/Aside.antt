@@ -9,7 +9,7 @@ use Rattle.pmt_model.specs.Machine.{Stores, writes}
 use Rattle.pmt_model.specs.Traces.{Recording, event, IsAct}
 use Rattle.pmt_model.specs.Selections.{Has, matching_place}
 use Rattle.pmt_model.specs.Assertions.{InSpan}
-use Rattle.pmt_slices.specs.Scanning.{IsUnwritten}
+use Rattle.pmt_slices.specs.Slices.{IsUnwritten}
 use Rattle.pmt_asked.specs.declared.ignoring.ByteRange.{ByteRange}
 use Rattle.pmt_part_laws.specs.Parts.{IsSetAside}
 use Rattle.pmt_parts.specs.declared.part.Part.{Part}

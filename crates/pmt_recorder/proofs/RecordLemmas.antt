@@ -1,5 +1,5 @@
 -- What the recorders of all scripts have done.
-use Rattle.std.proofs.Common.{◌≡◌, ◌↔◌, ℕ, zero, suc, ◌+◌, ◌<◌, ◌≤◌, ◌⊎◌, inl, inr, Bool, true, false, List, [], ◌∷◌, ◌++◌, length, map, get_or, slice_get, Some, None, Result, Ok, Err, OnOk, IfOk, IfErr, refl, sym, ap, subst, ◌∙◌, arith}
+use Rattle.std.proofs.Common.{◌≡◌, ◌↔◌, ℕ, zero, suc, ◌+◌, ◌<◌, ◌≤◌, ◌⊎◌, inl, inr, Bool, true, false, List, [], ◌∷◌, ◌++◌, length, map, get_or, Some, None, Result, Ok, Err, OnOk, IfOk, IfErr, refl, sym, ap, subst, ◌∙◌, arith}
 use Rattle.std.specs.Prelude.{◌==◌, ◌||◌}
 use Rattle.std.specs.List.{AllByRecursion}
 use Rattle.std.proofs.lemmas.List.{length-append, length-map}
@@ -63,12 +63,6 @@ pub thread-given : (n i : ℕ) (tapes : List Strip) (x d : Strip) → tapes ≡ 
 thread-given n i tapes x d e h at =
     let within : i < n = omega (arith, length-empty_tapes n, ap length e) in
     ap (λ (s : Strip). s.thread) (sym at ∙ ap (λ (xs : List Strip). get_or xs i d) e ∙ get_or-empty_tapes n i d within)
-
--- something stands only within a list
-within-from_get : {X : Type 0} (xs : List X) (k : ℕ) (x : X) → slice_get xs k ≡ Some x → k < length xs
-within-from_get [] k x e = absurd (none-some x e)
-within-from_get (y ∷ xs) zero x e = omega arith
-within-from_get (y ∷ xs) (suc k) x e = omega (arith, within-from_get xs k x e)
 
 -- The recorders from number n on have played their scripts.
 abbrev pub PlaysFrom : Layout → List (List Op) → ℕ → List Played → Type 0

@@ -2,7 +2,7 @@
 use Rattle.std.proofs.Common.{◌≡◌, ℕ, zero, suc, ◌-◌, ◌<◌, ◌≤◌, Bool, true, false, ◌==◌, List, [], ◌∷◌, length, max, drop, set, refl, sym, ap, subst, ◌∙◌, arith, get_or, eqb-true}
 use Rattle.std.specs.Prelude.{nat_lt, ◌||◌, slice_index_or, if◌then◌else◌}
 use Rattle.std.proofs.lemmas.Bool.{ltb-true}
-use Rattle.std.proofs.lemmas.List.{drop_all, length-map}
+use Rattle.std.proofs.lemmas.List.{drop_all}
 use Rattle.std.proofs.lemmas.Option.{slice_get-get_or}
 use Rattle.pmt_model.specs.Traces.{Recording, history}
 use Rattle.pmt_tables.specs.Flags.{MarksThese}
@@ -14,7 +14,7 @@ use Rattle.pmt_rows.specs.Linked.{raised}
 use Rattle.pmt_rows.proofs.LinkedLemmas.{raise_links}
 use Rattle.pmt_tables.specs.Slots.{IsSlotOf}
 use Rattle.pmt_rows.specs.declared.rows.Rows.{Rows}
-use Rattle.pmt_rows.specs.Known.{AreRows, IsKnownWith, row_after}
+use Rattle.pmt_rows.specs.Known.{AreRows, IsKnownWith}
 use Rattle.pmt_rows.proofs.RowLemmas.{rows-same}
 use Rattle.pmt_rows.proofs.WaitingLemmas.{raise-max}
 use Rattle.pmt_rows.specs.declared.open.OpenFlush.{OpenFlush}
@@ -60,10 +60,6 @@ rows-raised lines last safe flush w r is =
 module _ (T : Recording) (lines : List ℕ) (n : ℕ) (safe : ℕ → ℕ) (rows : Rows) (entries : List ℕ) (f : OpenFlush) (at : IsAtFence T lines n safe rows entries) (able : IsRaisable T lines n f) where
   pub placed : IsSlotOf (line_in lines f) f.slot lines
   placed = slice_get-get_or lines f.slot 0 able.within
-
-  -- there is a row at its slot
-  pub has-row : f.slot < length rows.rows.items
-  has-row = let e = at.rows.rows in omega (arith, able.within, ap length e, length-map lines (row_after safe (history T n)))
 
   -- the chain that the walk goes over
   chain : (stores : List ℕ) × IsChain entries (safe (line_in lines f)) f.store stores

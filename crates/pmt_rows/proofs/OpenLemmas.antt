@@ -1,5 +1,5 @@
 -- The lists of open flushes: reading one and writing one.
-use Rattle.std.proofs.Common.{◌≡◌, ◌≢◌, ℕ, zero, suc, ◌<◌, ◌≤◌, ◌⊎◌, inl, inr, Bool, true, false, List, [], ◌∷◌, ◌++◌, ◌-◌, length, take, get_or, set, map, refl, sym, ap, subst, ◌∙◌, arith}
+use Rattle.std.proofs.Common.{◌≡◌, ◌≢◌, ℕ, suc, ◌<◌, ◌⊎◌, inl, inr, Bool, true, false, List, [], ◌∷◌, ◌++◌, ◌-◌, length, take, get_or, set, map, refl, sym, ap, subst, ◌∙◌, arith}
 use Rattle.std.specs.Prelude.{◌==◌, if◌then◌else◌, All}
 use Rattle.std.proofs.lemmas.Bool.{cases_eq, eq-eqb, ne_eqb}
 use Rattle.std.proofs.lemmas.List.{get_or-map, get_or-set_same, get_or-set_other, get_or_append_left, length-append, length-map, map-append, map-set, take-map}
@@ -20,19 +20,6 @@ set-others f xs t u x other = ap (λ ys. get_or ys u []) (map-set f xs t x) ∙ 
 -- a list that is read
 pub read-own : {X Y : Type 0} (f : X → List Y) (xs : List X) (t : ℕ) (x : X) → t < length xs → x ≡ get_or xs t x → f x ≡ get_or (map f xs) t []
 read-own f xs t x h read = ap f read ∙ sym (get_or-map f xs t x [] h)
-
--- an empty list more
-pub list-empty : {Y : Type 0} (xs : List (List Y)) (t : ℕ) → get_or (xs ++ [] ∷ []) t [] ≡ get_or xs t []
-list-empty [] zero = refl
-list-empty [] (suc t) = refl
-list-empty (x ∷ xs) zero = refl
-list-empty (x ∷ xs) (suc t) = list-empty xs t
-
--- there is none past the last
-pub list-past : {Y : Type 0} (xs : List (List Y)) (t : ℕ) → length xs ≤ t → get_or xs t [] ≡ []
-list-past [] t past = refl
-list-past (x ∷ xs) zero past = absurd (omega arith)
-list-past (x ∷ xs) (suc t) past = list-past xs t (omega arith)
 
 -- one line more changes no flush
 pub waits-more : (lines more : List ℕ) (flushes : List OpenFlush) → All (λ f. f.slot < length lines) flushes → map (waits (lines ++ more)) flushes ≡ map (waits lines) flushes

@@ -12,9 +12,7 @@ use Rattle.pmt_model.specs.Selections.{IsRising, Has}
 use Rattle.pmt_laws.proofs.Histories.{act-unique, act-within}
 use Rattle.pmt_safety.specs.Closed.{IsLastIn}
 use Rattle.pmt_slices.specs.declared.coming.Coming.{Coming}
-use Rattle.pmt_slices.specs.Slices.{Tells, Speaks, IsRangeOf, IsInSlice, TheAssertion, OfStore, IsSlice}
-use Rattle.pmt_slices.specs.Scanning.{IsComing, IsChosen, HasChosen}
-use Rattle.pmt_slices.specs.Choosing.{Chooses, IsOfStore}
+use Rattle.pmt_slices.specs.Slices.{Tells, Speaks, IsRangeOf, IsInSlice, TheAssertion, OfStore, IsSlice, IsComing, IsChosen, HasChosen, Chooses, IsOfStore}
 use Rattle.pmt_slices.proofs.SliceLemmas.{tells-within, tells-some, persist-range, first-range, second-range}
 use Rattle.pmt_slices.proofs.ComingLemmas.{tells-coming, coming-tells}
 

@@ -12,9 +12,7 @@ use Rattle.pmt_explain.specs.Following.{IsFirst, IsFenceAfter, IsCompleteBy, ByF
 use Rattle.pmt_explain.proofs.FirstLemmas.{first-same, first-either, first-here, first-over}
 use Rattle.pmt_explain.proofs.FollowingLemmas.{own-flush}
 use Rattle.pmt_slices.specs.declared.coming.Coming.{Coming}
-use Rattle.pmt_slices.specs.Slices.{IsFirstFlush, IsFirstFlushBy, Tells, Itself, Completes, Covers, FirstFlush, FirstFence}
-use Rattle.pmt_slices.specs.Scanning.{IsFlushAfter, IsAnyFenceAfter, IsCompletion, OfFence, OfClflush, IsComing}
-use Rattle.pmt_slices.specs.Choosing.{IsOfStore, TheStore, TheFlush, TheCompletion, TheCover, TheFence}
+use Rattle.pmt_slices.specs.Slices.{IsFirstFlush, IsFirstFlushBy, Tells, Itself, Completes, Covers, FirstFlush, FirstFence, IsFlushAfter, IsAnyFenceAfter, IsCompletion, OfFence, OfClflush, IsComing, IsOfStore, TheStore, TheFlush, TheCompletion, TheCover, TheFence}
 use Rattle.pmt_slices.proofs.TellLemmas.{completed-is_safe, first-flush-unique}
 
 -- there is one first number

@@ -9,9 +9,8 @@ use Rattle.pmt_laws.proofs.Histories.{act-unique}
 use Rattle.pmt_slices.specs.declared.coming.Coming.{Coming}
 use Rattle.pmt_slices.specs.declared.scan.Scan.{Scan}
 use Rattle.pmt_slices.specs.declared.unwritten.Unwritten.{Unwritten}
-use Rattle.pmt_slices.specs.Scanning.{IsComing, IsScan, IsGoneBack}
+use Rattle.pmt_slices.specs.Slices.{IsComing, IsScan, IsGoneBack, Chooses, IsOfStore}
 use Rattle.pmt_slices.specs.Taking.{TakesStore}
-use Rattle.pmt_slices.specs.Choosing.{Chooses, IsOfStore}
 use Rattle.pmt_slices.proofs.ScanLemmas.{scan-over}
 use Rattle.pmt_slices.proofs.TakenLemmas.{byte-line, store-line, unwritten-over, unwritten-store, taken-last, untaken-not_last}
 use Rattle.pmt_slices.proofs.ChosenLemmas.{chosen-over, chosen-store}

@@ -17,7 +17,7 @@ use Rattle.pmt_explain.specs.Following.{IsFirst, IsFenceAfter}
 use Rattle.pmt_explain.proofs.FirstLemmas.{first-here, first-over}
 use Rattle.pmt_slices.specs.declared.coming.Coming.{Coming}
 use Rattle.pmt_slices.specs.declared.scan.Scan.{Scan}
-use Rattle.pmt_slices.specs.Scanning.{IsAnyFenceAfter, IsComing, IsScan}
+use Rattle.pmt_slices.specs.Slices.{IsAnyFenceAfter, IsComing, IsScan}
 use Rattle.pmt_slices.proofs.ComingLemmas.{coming-none, coming-over, coming-flush, coming-clflush}
 use Rattle.pmt_slices.proofs.TakenLemmas.{IsSize, Bytes32, Bytes64, Bytes128, Bytes256, size-of_format}
 

@@ -1,5 +1,5 @@
 -- The slice of an assertion has the grounds of its verdict.
-use Rattle.std.proofs.Common.{◌≡◌, ℕ, ◌≤◌, inl, inr, List, length, Some, refl, sym, subst, ◌∙◌, arith, [], ◌∷◌, None}
+use Rattle.std.proofs.Common.{◌≡◌, ℕ, ◌≤◌, inl, inr, List, length, Some, refl, sym, subst, ◌∙◌, arith, [], ◌∷◌}
 use Rattle.pmt_model.specs.Values.{Written, Span}
 use Rattle.pmt_model.specs.declared.event.Event.{Event}
 use Rattle.pmt_model.specs.declared.event.Op.TheVariants.{IsPersist, IsOrderedBefore}
@@ -8,7 +8,6 @@ use Rattle.pmt_model.specs.Traces.{Recording, IsAct, event, act}
 use Rattle.pmt_model.specs.Analyses.{IsVerdictOf, OfPersist, OfOrdered}
 use Rattle.pmt_model.specs.Selections.{Has, cut}
 use Rattle.std.proofs.lemmas.Bool.{cases_lt}
-use Rattle.std.proofs.lemmas.Option.{none-some, same_Some}
 use Rattle.std.specs.List.{AllByRecursion}
 use Rattle.pmt_laws.proofs.Histories.{act-within, act-unique}
 use Rattle.pmt_safety.specs.Safety.{IsSafeFrom}
@@ -113,12 +112,3 @@ all-has P (k ∷ ks) each = (each k (inl refl), all-has P ks (λ j has. each j (
 -- the numbers of a slice are those of events
 pub slice-within : (T : Recording) (n : ℕ) (K : List ℕ) → IsAssertion T n → IsSlice T n K → AllByRecursion (λ k. k ≤ length T.events) K
 slice-within T n K (A, range) slice = all-has (λ k. k ≤ length T.events) K (slice-subsequence T n K slice (range-within T n A range)).within
-
--- another event is no assertion
-pub no-assertion : (T : Recording) (n : ℕ) (e : Event) → event T n ≡ Some e → ((A : Span) → ¬ Speaks e.op A) → ¬ IsAssertion T n
-no-assertion T n e is none (A, (x, at, speaks)) =
-    let same : x ≡ e = same_Some x e (sym at ∙ is) in
-    none A (subst (λ y. Speaks y.op A) same speaks)
-
-pub nothing-asserted : (T : Recording) (n : ℕ) → event T n ≡ None → ¬ IsAssertion T n
-nothing-asserted T n none (A, (x, at, speaks)) = none-some x (sym none ∙ at)

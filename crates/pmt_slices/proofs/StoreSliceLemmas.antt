@@ -18,11 +18,7 @@ use Rattle.pmt_safety.proofs.SafetyLemmas.{safe-up_to, safe-later as safe_store-
 use Rattle.pmt_explain.specs.Following.{IsFirst, IsFenceAfter, past_of}
 use Rattle.pmt_slices.specs.declared.store_slicing.Fate.{Fate}
 use Rattle.pmt_reasons.specs.Causes.{IsCause}
-use Rattle.pmt_slices.specs.Slices.{IsSubsequence, Tells, cause_in}
-use Rattle.pmt_slices.specs.Scanning.{IsChosen}
-use Rattle.pmt_slices.specs.Choosing.{Chooses, IsOfStore}
-use Rattle.pmt_slices.specs.StoreSlices.{IsStoreBy, line_in, IsLateStore, IsLostOrLate, IsLost, IsLate, IsEarlyFence, IsInStoreSlice, OfStore, OwnFence, IsStoreSlice, StoreSliceTells}
-use Rattle.pmt_slices.specs.Fates.{is_fence, IsFate, IsOfFate}
+use Rattle.pmt_slices.specs.Slices.{IsSubsequence, Tells, cause_in, IsChosen, Chooses, IsOfStore, IsStoreBy, line_in, IsLateStore, IsLostOrLate, IsLost, IsLate, IsEarlyFence, IsInStoreSlice, OfStore, OwnFence, IsStoreSlice, StoreSliceTells, is_fence, IsFate, IsOfFate}
 use Rattle.pmt_slices.proofs.CuttingLemmas.{kept-act, act-origin, placed-later, later-origin}
 use Rattle.pmt_slices.proofs.TellLemmas.{completed-is_safe}
 use Rattle.pmt_slices.proofs.SliceLemmas.{tells-within, tells-some, all-has}

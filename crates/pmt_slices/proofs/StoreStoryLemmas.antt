@@ -1,5 +1,5 @@
 -- The story of a store.
-use Rattle.std.proofs.Common.{◌≡◌, ◌≢◌, ℕ, zero, suc, ◌<◌, ◌≤◌, ◌⊎◌, inl, inr, Bool, List, [], ◌∷◌, length, Some, refl, sym, ap, subst, ◌∙◌, arith}
+use Rattle.std.proofs.Common.{◌≡◌, ◌≢◌, ℕ, zero, suc, ◌<◌, ◌≤◌, ◌⊎◌, inl, inr, Bool, List, [], ◌∷◌, length, Some, refl, sym, subst, ◌∙◌, arith}
 use Rattle.std.specs.Prelude.{◌↔◌, slice_get}
 use Rattle.std.proofs.lemmas.Bool.{cases_lt}
 use Rattle.std.proofs.lemmas.Option.{same_Some, slice_get_within}
@@ -17,11 +17,7 @@ use Rattle.pmt_slices.specs.declared.store_story.StorePart.TheVariants as part
 use Rattle.pmt_slices.specs.declared.store_story.StoreStory.{StoreStory}
 use Rattle.pmt_slices.specs.declared.store_story.Turn.{Turn}
 use Rattle.pmt_slices.specs.declared.store_story.Turn.TheVariants as turn
-use Rattle.pmt_slices.specs.Slices.{IsFirstFlush, IsFirstFlushBy, Tells, Covers, FirstFence}
-use Rattle.pmt_slices.specs.Scanning.{IsChosen, IsCompletion, OfFence, OfClflush}
-use Rattle.pmt_slices.specs.Choosing.{Chooses, IsOfStore, TheStore, TheFlush, TheCompletion, TheCover, TheFence}
-use Rattle.pmt_slices.specs.StoreSlices.{IsStoreBy, line_in}
-use Rattle.pmt_slices.specs.Fates.{IsFate}
+use Rattle.pmt_slices.specs.Slices.{IsFirstFlush, IsFirstFlushBy, Tells, Covers, FirstFence, IsChosen, IsCompletion, OfFence, OfClflush, Chooses, IsOfStore, TheStore, TheFlush, TheCompletion, TheCover, TheFence, IsStoreBy, line_in, IsFate}
 use Rattle.pmt_slices.specs.StoreStories.{turn_of, IsTurn, IsOther, AreOthers, IsOfOthers, IsOfStory, IsNextFence, IsStorePart, IsStoreTold, IsInStoreStory, OfStore, OwnFence, OfOthers, IsStoreStory}
 use Rattle.pmt_slices.proofs.SliceLemmas.{tells-within, tells-some}
 use Rattle.pmt_slices.proofs.ComingLemmas.{tells-coming, coming-tells, told-safe, saved-at, flushed-at}
@@ -57,13 +53,6 @@ chooses-same P Q old new there back c = record {
   own = λ k some within q. c.own k some within (back k q);
   just = λ k x. elim (c.just k x) [ inl before ↦ inl before | inr p ↦ inr (there k p) ];
 }
-
--- before any event was met
-pub chooses-none : (T : Recording) (t l j : ℕ) (chosen : List Bool) → Chooses (IsOtherBy T t l j j) chosen chosen
-chooses-none T t l j chosen = record { size = refl; stays = λ k x. x; own = λ k some within x. let later = x.1.after in absurd (omega (arith, x.0, later)); just = λ k x. inl x }
-
-pub stop-none : (T : Recording) (t l j : ℕ) → NoStop T t l j j
-stop-none T t l j m after by at = absurd (omega arith)
 
 -- over an event that is nothing to the line, or of another thread
 pub chooses-over : (T : Recording) (t l j i : ℕ) (e : Event) (old new : List Bool) → event T (suc i) ≡ Some e → (e.thread ≡ t → turn_of T.format l e.op ≡ turn.Nothing) →
@@ -145,40 +134,6 @@ others-made T t l j K before chosen rising just none size c = record {
 -- Event k is one of these, among the first n.
 abbrev pub IsFewBy : List ℕ → ℕ → ℕ → Type 0
 IsFewBy others n k = (i : ℕ) × (i < n) × (slice_get others i ≡ Some k) × ((i < 3) ⊎ (suc i ≡ length others))
-
-pub few-none : (others : List ℕ) (chosen : List Bool) → Chooses (IsFewBy others 0) chosen chosen
-few-none others chosen = record { size = refl; stays = λ k x. x; own = λ k some within x. absurd (omega (arith, x.1)); just = λ k x. inl x }
-
-pub few-over : (others : List ℕ) (n : ℕ) (old new : List Bool) → ((n < 3) ⊎ (suc n ≡ length others) → ⊥) → Chooses (IsFewBy others n) old new → Chooses (IsFewBy others (suc n)) old new
-few-over others n old new not c = chooses-same (IsFewBy others n) (IsFewBy others (suc n)) old new (λ k x. (x.0, omega (arith, x.1), x.2, x.3)) back c
-  where
-    back : (k : ℕ) → IsFewBy others (suc n) k → IsFewBy others n k
-    back k x = elim (cases_lt x.0 n) [
-      | inl less ↦ (x.0, less, x.2, x.3)
-      | inr from ↦ let same : x.0 ≡ n = omega (arith, x.1, from) in absurd (not (subst (λ i. (i < 3) ⊎ (suc i ≡ length others)) same x.3))
-    ]
-
-pub few-here : (others : List ℕ) (n x : ℕ) (old before new : List Bool) → slice_get others n ≡ Some x → (n < 3) ⊎ (suc n ≡ length others) → Chooses (IsFewBy others n) old before → length new ≡ length before →
-    ((k : ℕ) → IsChosen before k → IsChosen new k) → (1 ≤ x → x ≤ length before → IsChosen new x) → ((k : ℕ) → IsChosen new k → IsChosen before k ⊎ (k ≡ x)) → Chooses (IsFewBy others (suc n)) old new
-few-here others n x old before new at shown c size stays own just = record {
-  size = size ∙ c.size;
-  stays = λ k y. stays k (c.stays k y);
-  own = λ k some within y. elim (cases_lt y.0 n) [
-    | inl less ↦ stays k (c.own k some within (y.0, less, y.2, y.3))
-    | inr from ↦
-        let place : y.0 ≡ n = omega (arith, y.1, from) in
-        let same : x ≡ k = same_Some x k (sym at ∙ ap (slice_get others) (sym place) ∙ y.2) in
-        subst (IsChosen new) same (own (omega (arith, some, same)) (omega (arith, within, same, c.size)))
-  ];
-  just = λ k y. elim (just k y) [
-    | inl was ↦ elim (c.just k was) [ inl o ↦ inl o | inr p ↦ inr (p.0, omega (arith, p.1), p.2, p.3) ]
-    | inr e ↦ inr (n, omega arith, at ∙ ap Some (sym e), shown)
-  ];
-}
-
-pub few-all : (others : List ℕ) (n : ℕ) (old new : List Bool) → length others ≤ n → Chooses (IsFewBy others n) old new → Chooses (IsOfOthers others) old new
-few-all others n old new all c =
-    chooses-same (IsFewBy others n) (IsOfOthers others) old new (λ k x. (x.0, x.2, x.3)) (λ k x. (x.0, omega (arith, all, slice_get_within others x.0 k x.1), x.1, x.2)) c
 
 -- what stands in a list at a place is in it
 get-has : (xs : List ℕ) (i k : ℕ) → slice_get xs i ≡ Some k → Has xs k

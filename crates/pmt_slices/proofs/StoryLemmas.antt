@@ -20,9 +20,7 @@ use Rattle.pmt_reasons.specs.Failures.{IsLastIn, IsFailureOf, IsFailureAt}
 use Rattle.pmt_safety.specs.Safety.{IsSafeFrom}
 use Rattle.pmt_slices.specs.declared.story.Part.TheVariants.{Kept, Saves, Flush, Cover, Fence}
 use Rattle.pmt_slices.specs.declared.story.Story.{Story}
-use Rattle.pmt_slices.specs.Slices.{IsFirstFlush, IsFirstFlushBy, Tells, Itself, IsRangeOf, IsSlice, TheAssertion as TheAsserted, OfStore}
-use Rattle.pmt_slices.specs.Scanning.{IsChosen, IsCompletion, OfFence, OfClflush, IsComing}
-use Rattle.pmt_slices.specs.Choosing.{Chooses, IsOfStore, TheStore, TheFlush, TheCompletion, TheCover, TheFence, IsOfFailure}
+use Rattle.pmt_slices.specs.Slices.{IsFirstFlush, IsFirstFlushBy, Tells, Itself, IsRangeOf, IsSlice, TheAssertion as TheAsserted, OfStore, IsChosen, IsCompletion, OfFence, OfClflush, IsComing, Chooses, IsOfStore, TheStore, TheFlush, TheCompletion, TheCover, TheFence, IsOfFailure}
 use Rattle.pmt_slices.specs.Stories.{IsPart, IsTold, IsInStory, TheAssertion, TheKept, OfLost, IsStory, StoryTells}
 use Rattle.pmt_slices.proofs.TellLemmas.{completed-is_safe}
 use Rattle.pmt_slices.proofs.SliceLemmas.{tells-within, tells-some, persist-range, first-range, second-range}
@@ -126,14 +124,6 @@ module _ (T : Recording) (n : ℕ) (f : Failure) (s : Story) (is : IsStory T n f
   told-fence a b c d e g =
       let own = part-fence a b c d e g in
       inr (no-assertion a, inr (no-lost b, inr (no-kept c, inr (no-saves d, inr (no-flush e, inr (fence-no-cover own, inl (refl, own)))))))
-
--- the store that is kept is that of the failure
-pub part-kept : (f : Failure) (k : ℕ) (o : Option ℕ) → o ≡ option_map (λ (z : ByteStore). z.store) f.kept → o ≡ Some k → (y : ByteStore) × (f.kept ≡ Some y) × (k ≡ y.store)
-part-kept f k o kept is = go f.kept refl (sym kept ∙ is)
-  where
-    go : (x : Option ByteStore) → f.kept ≡ x → option_map (λ (z : ByteStore). z.store) x ≡ Some k → (y : ByteStore) × (f.kept ≡ Some y) × (k ≡ y.store)
-    go None at e = cc
-    go (Some y) at e = (y, at, sym (same_Some y.store k e))
 
 pub part-unkept : (o : Option ℕ) (k : ℕ) → option_eq nat_eq o (Some k) ≡ false → o ≢ Some k
 part-unkept None k other = λ e. cc

@@ -1,5 +1,5 @@
 -- Bytes that no store writes, going back event by event.
-use Rattle.std.proofs.Common.{◌≡◌, ◌≢◌, ℕ, suc, ◌+◌, ◌-◌, ◌/◌, ◌<◌, ◌≤◌, ◌⊎◌, inl, inr, ◌==◌, ◌&&◌, Bool, true, false, max, min, List, length, get_or, refl, sym, ap, subst, ◌∙◌, eqb-true, true≢false, arith}
+use Rattle.std.proofs.Common.{◌≡◌, ◌≢◌, ℕ, suc, ◌+◌, ◌-◌, ◌/◌, ◌<◌, ◌≤◌, ◌⊎◌, inl, inr, ◌==◌, ◌&&◌, Bool, true, false, max, min, List, length, refl, sym, ap, subst, ◌∙◌, eqb-true, true≢false, arith}
 use Rattle.std.specs.Prelude.{◌||◌, nat_le, nat_lt, IsTrue}
 use Rattle.std.specs.List.{refill}
 use Rattle.std.proofs.lemmas.Bool.{cases_lt, and_parts, leb-true, ltb-true, le-leb, lt-ltb, and_from}
@@ -15,7 +15,7 @@ use Rattle.pmt_laws.proofs.Histories.{act-unique}
 use Rattle.pmt_laws.proofs.OverwrittenLemmas.{last_store_number-from, last_store_number-is}
 use Rattle.pmt_safety.specs.Closed.{IsLastIn}
 use Rattle.pmt_slices.specs.declared.unwritten.Unwritten.{Unwritten}
-use Rattle.pmt_slices.specs.Scanning.{IsUnwritten, AreUnwritten}
+use Rattle.pmt_slices.specs.Slices.{IsUnwritten, AreUnwritten}
 use Rattle.pmt_slices.specs.Taking.{is_free, TakesBytes, TakesStore}
 
 -- a line has a multiple of 8 bytes
@@ -85,15 +85,6 @@ store-line T n l w (e, at, is) = go e.op is
 -- a byte of the range is one of the list
 byte-at : (A : Span) (b : ℕ) → InSpan A b → (k : ℕ) × (k < A.len) × (A.addr + k ≡ b)
 byte-at A b (above, below) = (b - A.addr, omega arith, omega arith)
-
--- before any event was met no store has come
-pub unwritten-none : (T : Recording) (A : Span) (n : ℕ) (u : Unwritten) → u.low ≡ A.addr → length u.bytes.items ≡ A.len → ((k : ℕ) → k < A.len → get_or u.bytes.items k false ≡ true) → AreUnwritten T A n n u
-unwritten-none T A n u low size each = record {
-  low = low;
-  size = size;
-  free = λ k within is m l w after by store. absurd (omega arith);
-  taken = λ k within is all. true≢false (sym (each k within) ∙ is);
-}
 
 -- over an event that is no store to the byte
 free-over : (T : Recording) (m n b : ℕ) → ((l : ℕ) (w : Written) → IsAct T (suc m) (Stores l w) → writes w b ≢ true) → IsUnwritten T (suc m) n b → IsUnwritten T m n b

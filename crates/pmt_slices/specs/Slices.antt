@@ -1,15 +1,15 @@
 -- The slice of an assertion: the events by which it has its verdict, and its stores their causes.
-use Rattle.std.specs.Prelude.{◌≡◌, ℕ, ◌<◌, ◌≤◌, ◌⊎◌, ◌↔◌, List, length, Some}
+use Rattle.std.specs.Prelude.{◌≡◌, ℕ, ◌<◌, ◌≤◌, ◌⊎◌, ◌↔◌, List, length, Some, ◌≢◌, suc, ◌+◌, Bool, true, false, slice_get, slice_index_or, slice_index}
 use Rattle.std.specs.Option.{option_map}
-use Rattle.pmt_model.specs.Values.{Span}
+use Rattle.pmt_model.specs.Values.{Span, Written, line_of}
 use Rattle.pmt_model.specs.declared.event.Event.{Event}
 use Rattle.pmt_model.specs.declared.event.Op.{Op}
 use Rattle.pmt_model.specs.declared.event.Op.TheVariants.{Store, Clwb, ClflushOpt, Clflush, Sfence, Mfence, IsPersist, IsOrderedBefore}
 use Rattle.pmt_model.specs.declared.finding.Verdict.{Verdict}
-use Rattle.pmt_model.specs.Machine.{Flushes, Clflushes, Fences}
+use Rattle.pmt_model.specs.Machine.{Flushes, Clflushes, Fences, Stores, writes}
 use Rattle.pmt_model.specs.Traces.{Recording, IsAct, event, history}
 use Rattle.pmt_model.specs.Selections.{IsRising, Has, cut, matching_place}
-use Rattle.pmt_model.specs.Assertions.{PersistPasses, OrderedPasses}
+use Rattle.pmt_model.specs.Assertions.{PersistPasses, OrderedPasses, InSpan}
 use Rattle.pmt_model.specs.Analyses.{IsVerdictOf}
 use Rattle.pmt_model.specs.Findings.{IsFlushOf, IsSafe}
 use Rattle.pmt_reasons.specs.declared.cause.Cause.{Cause}
@@ -20,6 +20,12 @@ use Rattle.pmt_reasons.specs.Failures.{IsFailureAt}
 use Rattle.pmt_reasons.specs.Causes.{IsFirstFenceAt, IsCause}
 use Rattle.pmt_safety.specs.Safety.{IsSafeFrom}
 use Rattle.pmt_safety.specs.Closed.{IsLastIn}
+use Rattle.pmt_tables.specs.Flags.{is_kept_at}
+use Rattle.pmt_explain.specs.Following.{IsFirst, IsFenceAfter, IsCompletedAfter, past_of}
+use Rattle.pmt_slices.specs.declared.coming.Coming.{Coming}
+use Rattle.pmt_slices.specs.declared.scan.Scan.{Scan}
+use Rattle.pmt_slices.specs.declared.unwritten.Unwritten.{Unwritten}
+use Rattle.pmt_slices.specs.declared.store_slicing.Fate.{Fate}
 
 -- Rising numbers of events. Any event may be left out, a store or an assertion too.
 pub record IsSubsequence (T : Recording) (K : List ℕ) : Type 0 where
@@ -137,3 +143,162 @@ failure_in K f = record { place = matching_place K f.place; kept = option_map (s
 -- The crash that violates a failed assertion is that of its slice: the same kept store and byte, and the same lost ones.
 abbrev pub SliceFails : Type 0
 SliceFails = (T : Recording) (n : ℕ) (K : List ℕ) (f : Failure) → IsSlice T n K → IsFailureAt T n (Some f) → IsFailureAt (cut T K) (matching_place K n) (Some (failure_in K f))
+
+-- ---- What is known once the events after a place were met, from an assertion back to there
+
+-- Event k is a flush of line l after event m.
+abbrev pub IsFlushAfter : Recording → ℕ → ℕ → ℕ → Type 0
+IsFlushAfter T l m k = (m < k) × IsFlushOf T l k
+
+-- Event k is a fence, of any thread, after event m.
+abbrev pub IsAnyFenceAfter : Recording → ℕ → ℕ → Type 0
+IsAnyFenceAfter T m k = (m < k) × ((t : ℕ) × IsAct T k (Fences t))
+
+-- Event p completes a flush of line l after event m, and `flush` is the first such flush: of a fence the first one by its thread, of a
+-- clflush the clflush itself.
+pub data IsCompletion (T : Recording) (l m flush p : ℕ) : Type 0 where
+  OfFence : (t : ℕ) → IsAct T p (Fences t) → IsFirstFlushBy T t l m flush → flush < p → IsCompletion T l m flush p
+  OfClflush : IsAct T p (Clflushes l) → m < p → flush ≡ p → IsCompletion T l m flush p
+
+-- Of line l this comes after event m, and before `past`.
+pub record IsComing (T : Recording) (l m past : ℕ) (c : Coming) : Type 0 where
+  pub flush : IsFirst (IsFlushAfter T l m) past c.flush
+  pub fence : c.flush < past → IsFirst (IsAnyFenceAfter T c.flush) past c.fence
+  pub safe : IsFirst (IsCompletedAfter T l m) past c.safe
+  pub cover : c.safe < past → IsCompletion T l m c.cover c.safe
+
+-- The same of each line that the range meets, and of the fences.
+pub record IsScan (T : Recording) (A : Span) (m past : ℕ) (s : Scan) : Type 0 where
+  pub meets : (b : ℕ) → InSpan A b → (s.first ≤ line_of T.format b) × (line_of T.format b < s.first + length s.lines.items)
+  pub lines : (k : ℕ) (c : Coming) → slice_get s.lines.items k ≡ Some c → IsComing T (s.first + k) m past c
+  pub threads : length s.fences ≡ 256
+  pub fences : (t : ℕ) → t < 256 → IsFirst (IsFenceAfter T t m) past (slice_index s.fences t)
+  pub fence : IsFirst (IsAnyFenceAfter T m) past s.fence
+
+-- No event after event m up to event n stores to the byte at b.
+abbrev pub IsUnwritten : Recording → ℕ → ℕ → ℕ → Type 0
+IsUnwritten T m n b = (k l : ℕ) (w : Written) → m < k → k ≤ n → IsAct T k (Stores l w) → writes w b ≢ true
+
+-- These are the bytes of the range to which no event after event m up to event n stores.
+pub record AreUnwritten (T : Recording) (A : Span) (m n : ℕ) (u : Unwritten) : Type 0 where
+  pub low : u.low ≡ A.addr
+  pub size : length u.bytes.items ≡ A.len
+  pub free : (k : ℕ) → k < A.len → slice_index_or u.bytes.items k false ≡ true → IsUnwritten T m n (A.addr + k)
+  pub taken : (k : ℕ) → k < A.len → slice_index_or u.bytes.items k false ≡ false → ¬ IsUnwritten T m n (A.addr + k)
+
+abbrev pub IsChosen : List Bool → ℕ → Type 0
+IsChosen chosen k = is_kept_at chosen k ≡ true
+
+-- Of each last store of the first n events to a byte of the range that comes after event m all that tells of it is chosen; and besides
+-- this, only what was chosen before.
+pub record HasChosen (T : Recording) (A : Span) (m n : ℕ) (before chosen : List Bool) : Type 0 where
+  pub size : length chosen ≡ n
+  pub stays : (k : ℕ) → IsChosen before k → IsChosen chosen k
+  pub all : (l j k : ℕ) → IsLastIn T n A l j → m < j → Tells T n l j k → IsChosen chosen k
+  pub just : (k : ℕ) → IsChosen chosen k → IsChosen before k ⊎ ((l : ℕ) × (j : ℕ) × IsLastIn T n A l j × Tells T n l j k)
+
+-- All events after event m and up to the assertion at n were met, beginning with these choices.
+pub record IsGoneBack (T : Recording) (A : Span) (m n : ℕ) (before : List Bool) (s : Scan) (u : Unwritten) (flags : List Bool) : Type 0 where
+  pub scan : IsScan T A m (suc n) s
+  pub unwritten : AreUnwritten T A m n u
+  pub chosen : HasChosen T A m n before flags
+
+-- ---- Events that are chosen besides others
+
+-- The events with the property are chosen besides, those that have a flag.
+pub record Chooses (P : ℕ → Type 0) (old new : List Bool) : Type 0 where
+  pub size : length new ≡ length old
+  pub stays : (k : ℕ) → IsChosen old k → IsChosen new k
+  pub own : (k : ℕ) → 1 ≤ k → k ≤ length old → P k → IsChosen new k
+  pub just : (k : ℕ) → IsChosen new k → IsChosen old k ⊎ P k
+
+-- Number k is that of the store, or of what comes after it and tells of it, up to event n.
+pub data IsOfStore (number : ℕ) (c : Coming) (n k : ℕ) : Type 0 where
+  TheStore : k ≡ number → IsOfStore number c n k
+  TheFlush : k ≡ c.flush → IsOfStore number c n k
+  TheCompletion : c.safe ≤ n → k ≡ c.safe → IsOfStore number c n k
+  TheCover : c.safe ≤ n → k ≡ c.cover → IsOfStore number c n k
+  TheFence : c.fence ≤ c.safe → c.flush ≤ n → k ≡ c.fence → IsOfStore number c n k
+
+-- Number k is that of the store that the crash keeps, or of what tells of the store that it loses.
+abbrev pub IsOfFailure : Failure → Coming → ℕ → ℕ → Type 0
+IsOfFailure f c n k = ((y : ByteStore) × (f.kept ≡ Some y) × (k ≡ y.store)) ⊎ IsOfStore f.lost.store c n k
+
+-- ---- The slice of a store: the events by which it is lost, or late
+
+-- Event j is this store, by thread t.
+pub record IsStoreBy (T : Recording) (t : ℕ) (w : Written) (j : ℕ) : Type 0 where
+  pub made : Event
+  pub is_made : event T j ≡ Some made
+  pub thread : made.thread ≡ t
+  pub op : made.op ≡ Store w
+
+-- The line of a store.
+abbrev pub line_in : Recording → Written → ℕ
+line_in T w = line_of T.format w.addr
+
+-- Store j to line l, by thread t, is not safe after two later fences of its thread.
+pub record IsLateStore (T : Recording) (t l j : ℕ) : Type 0 where
+  pub first : ℕ
+  pub second : ℕ
+  pub is_first : IsAct T first (Fences t)
+  pub is_second : IsAct T second (Fences t)
+  pub after : j < first
+  pub later : first < second
+  pub unsafe : ¬ IsSafe T l second j
+
+-- Event j is a store that is never persisted, or late.
+pub data IsLostOrLate (T : Recording) (j : ℕ) : Type 0 where
+  IsLost : (t : ℕ) (w : Written) → IsStoreBy T t w j → ¬ IsSafe T (line_in T w) (length T.events) j → IsLostOrLate T j
+  IsLate : (t : ℕ) (w : Written) → IsStoreBy T t w j → IsLateStore T t (line_in T w) j → IsLostOrLate T j
+
+-- Event k is one of the first two fences of thread t after event j.
+pub record IsEarlyFence (T : Recording) (t j k : ℕ) : Type 0 where
+  pub is_fence : IsAct T k (Fences t)
+  pub after : j < k
+  pub few : (a b : ℕ) → j < a → a < b → b < k → IsAct T a (Fences t) → ¬ IsAct T b (Fences t)
+
+-- Event k tells of store j up to the end, or is one of the first two fences of its own thread after it, where it is not safe.
+pub data IsInStoreSlice (T : Recording) (t l j k : ℕ) : Type 0 where
+  OfStore : Tells T (length T.events) l j k → IsInStoreSlice T t l j k
+  OwnFence : IsEarlyFence T t j k → ¬ IsSafe T l k j → IsInStoreSlice T t l j k
+
+-- K is the rising list of these events.
+pub record IsStoreSlice (T : Recording) (j : ℕ) (K : List ℕ) : Type 0 where
+  pub thread : ℕ
+  pub what : Written
+  pub store : IsStoreBy T thread what j
+  pub rising : IsRising 0 K
+  pub just : (k : ℕ) → Has K k ↔ IsInStoreSlice T thread (line_in T what) j k
+
+-- The store is as lost and as late in its slice as in the trace: safe at the same places, and else pending for the same cause; and late in
+-- the one exactly if it is in the other.
+pub record StoreSliceTells : Type 0 where
+  pub safe : (T : Recording) (j q : ℕ) (K : List ℕ) (s : IsStoreSlice T j K) → q ≤ length T.events →
+      IsSafe T (line_in T s.what) q j ↔ IsSafe (cut T K) (line_in T s.what) (matching_place K q) (matching_place K j)
+  pub cause : (T : Recording) (j q : ℕ) (K : List ℕ) (c : Cause) (s : IsStoreSlice T j K) → q ≤ length T.events →
+      IsCause T (line_in T s.what) q j c → IsCause (cut T K) (line_in T s.what) (matching_place K q) (matching_place K j) (cause_in K c)
+  pub late : (T : Recording) (j : ℕ) (K : List ℕ) (s : IsStoreSlice T j K) →
+      IsLateStore T s.thread (line_in T s.what) j ↔ IsLateStore (cut T K) s.thread (line_in T s.what) (matching_place K j)
+
+-- ---- What comes after a store, up to the end of a trace
+
+abbrev pub is_fence : Op → Bool
+is_fence (Store w) = false
+is_fence (Clwb a) = false
+is_fence (ClflushOpt a) = false
+is_fence (Clflush a) = false
+is_fence Sfence = true
+is_fence Mfence = true
+is_fence (IsPersist r) = false
+is_fence (IsOrderedBefore r q) = false
+
+-- This comes after this store at j, by thread t.
+pub record IsFate (T : Recording) (t : ℕ) (w : Written) (j : ℕ) (f : Fate) : Type 0 where
+  pub coming : IsComing T (line_in T w) j (past_of T) f.coming
+  pub first : IsFirst (IsFenceAfter T t j) (past_of T) f.first
+  pub second : IsFirst (IsFenceAfter T t f.first) (past_of T) f.second
+
+-- Number k is that of the store, of what tells of it, or of one of the two fences, where the store is not safe.
+abbrev pub IsOfFate : ℕ → Fate → ℕ → ℕ → Type 0
+IsOfFate number f n k = IsOfStore number f.coming n k ⊎ (((f.first < f.coming.safe) × (k ≡ f.first)) ⊎ ((f.second < f.coming.safe) × (k ≡ f.second)))

@@ -16,10 +16,7 @@ use Rattle.pmt_slices.specs.declared.store_story.StorePart.TheVariants as part
 use Rattle.pmt_slices.specs.declared.store_story.StoreStory.{StoreStory}
 use Rattle.pmt_slices.specs.declared.store_story.Turn.{Turn}
 use Rattle.pmt_slices.specs.declared.store_story.Turn.TheVariants as turn
-use Rattle.pmt_slices.specs.Slices.{IsFirstFlush, IsFirstFlushBy, Tells}
-use Rattle.pmt_slices.specs.Choosing.{IsOfStore}
-use Rattle.pmt_slices.specs.StoreSlices.{IsStoreBy, line_in}
-use Rattle.pmt_slices.specs.Fates.{IsFate}
+use Rattle.pmt_slices.specs.Slices.{IsFirstFlush, IsFirstFlushBy, Tells, IsOfStore, IsStoreBy, line_in, IsFate}
 use Rattle.pmt_slices.specs.Stories.{IsFirstOf}
 
 -- What an op of a store's thread is to the store's line: a flush of it and a fence are one, a flush of another line, or nothing.

@@ -14,8 +14,7 @@ use Rattle.pmt_safety.specs.Safety.{IsSafeFrom}
 use Rattle.pmt_slices.specs.declared.story.Part.{Part}
 use Rattle.pmt_slices.specs.declared.story.Part.TheVariants.{Assertion, Lost, Kept, Saves, Flush, Cover, Fence}
 use Rattle.pmt_slices.specs.declared.story.Story.{Story}
-use Rattle.pmt_slices.specs.Slices.{IsFirstFlush, IsFirstFlushBy, Tells, IsSlice}
-use Rattle.pmt_slices.specs.Scanning.{IsComing}
+use Rattle.pmt_slices.specs.Slices.{IsFirstFlush, IsFirstFlushBy, Tells, IsSlice, IsComing}
 
 -- Event k is this part of the story of the assertion at n, whose crash loses a store to line l.
 abbrev pub IsPart : Recording → ℕ → ℕ → Failure → Part → ℕ → Type 0

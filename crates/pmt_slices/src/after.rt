@@ -3,7 +3,7 @@
 ghost use Rattle.std.specs.Prelude.{◌≡◌, ℕ, suc, ◌≤◌, ◌<◌, length, IfOk};
 ghost use Rattle.pmt_model.specs.Values.{Span, line_of as line_in};
 ghost use Rattle.pmt_model.specs.Traces.{Recording, IsAct, act_of};
-ghost use Rattle.pmt_slices.specs.Scanning.{IsComing, IsScan};
+ghost use Rattle.pmt_slices.specs.Slices.{IsComing, IsScan};
 
 use crate::coming::Coming;
 use crate::scan::Scan;

@@ -1,8 +1,7 @@
 //! Events that are chosen, by a flag each.
 
 ghost use Rattle.std.specs.Prelude.{◌≡◌, ℕ, ◌+◌, ◌<◌, ◌≤◌, ◌⊎◌, ◌↔◌, length, IfOk};
-ghost use Rattle.pmt_slices.specs.Scanning.{IsChosen};
-ghost use Rattle.pmt_slices.specs.Choosing.{Chooses, IsOfStore};
+ghost use Rattle.pmt_slices.specs.Slices.{IsChosen, Chooses, IsOfStore};
 
 use crate::coming::Coming;
 use pmt_model::OutOfMemory;

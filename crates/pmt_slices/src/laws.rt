@@ -1,7 +1,6 @@
 //! What holds of slices: each function has an empty body, and its contract states a law.
 
-ghost use Rattle.pmt_slices.specs.Slices.{SliceFails, SliceJudges, SliceTells, VerdictBySelection};
-ghost use Rattle.pmt_slices.specs.StoreSlices.{StoreSliceTells};
+ghost use Rattle.pmt_slices.specs.Slices.{SliceFails, SliceJudges, SliceTells, VerdictBySelection, StoreSliceTells};
 ghost use Rattle.pmt_slices.specs.Stories.{StoryTells};
 
 /// An assertion has the same verdict in the trace and in the trace cut to some of its events, if these are the last stores to the bytes

@@ -5,7 +5,7 @@ ghost use Rattle.pmt_model.specs.Values.{Span, Written, line_of as line_in};
 ghost use Rattle.pmt_model.specs.Machine.{Stores, Flushes, Clflushes, Fences, Asserts};
 ghost use Rattle.pmt_model.specs.Traces.{Recording, IsAct};
 ghost use Rattle.pmt_model.specs.Assertions.{InSpan};
-ghost use Rattle.pmt_slices.specs.Scanning.{IsComing, IsScan};
+ghost use Rattle.pmt_slices.specs.Slices.{IsComing, IsScan};
 
 use crate::coming::Coming;
 use pmt_model::{Format, OutOfMemory, Range};

@@ -7,8 +7,7 @@ ghost use Rattle.pmt_model.specs.Formats.{IsFormat};
 ghost use Rattle.pmt_model.specs.Values.{Span};
 ghost use Rattle.pmt_model.specs.Machine.{Stores};
 ghost use Rattle.pmt_model.specs.Traces.{Recording, IsAct, act_of, event as event_at};
-ghost use Rattle.pmt_slices.specs.Slices.{IsAssertion, IsSlice};
-ghost use Rattle.pmt_slices.specs.Scanning.{HasChosen, IsGoneBack};
+ghost use Rattle.pmt_slices.specs.Slices.{IsAssertion, IsSlice, HasChosen, IsGoneBack};
 
 use crate::choosing::{choose_store, only};
 use crate::scan::Scan;

@@ -4,9 +4,7 @@ ghost use Rattle.std.specs.Prelude.{◌≡◌, ℕ, ◌≤◌, length, IfOk, Mat
 ghost use Rattle.pmt_model.specs.Values.{Written};
 ghost use Rattle.pmt_model.specs.Selections.{cut};
 ghost use Rattle.pmt_explain.specs.Following.{IsFirst, IsFenceAfter, past_of};
-ghost use Rattle.pmt_slices.specs.Choosing.{Chooses};
-ghost use Rattle.pmt_slices.specs.Fates.{IsFate, IsOfFate, is_fence as is_fence_op};
-ghost use Rattle.pmt_slices.specs.StoreSlices.{IsLostOrLate, IsStoreBy, IsStoreSlice};
+ghost use Rattle.pmt_slices.specs.Slices.{Chooses, IsFate, IsOfFate, is_fence as is_fence_op, IsLostOrLate, IsStoreBy, IsStoreSlice};
 
 use crate::after::coming_after;
 use crate::choosing::{choose, choose_store, nothing};

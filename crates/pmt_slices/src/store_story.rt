@@ -5,10 +5,7 @@ ghost use Rattle.pmt_model.specs.Values.{Written, line_of as line_in};
 ghost use Rattle.pmt_model.specs.Traces.{Recording};
 ghost use Rattle.pmt_model.specs.Selections.{Has};
 ghost use Rattle.pmt_model.specs.Findings.{IsFlushOf, IsSafe};
-ghost use Rattle.pmt_slices.specs.Slices.{IsFirstFlush};
-ghost use Rattle.pmt_slices.specs.Choosing.{Chooses};
-ghost use Rattle.pmt_slices.specs.Fates.{IsFate};
-ghost use Rattle.pmt_slices.specs.StoreSlices.{IsStoreBy};
+ghost use Rattle.pmt_slices.specs.Slices.{IsFirstFlush, Chooses, IsFate, IsStoreBy};
 ghost use Rattle.pmt_slices.specs.StoreStories.{AreOthers, IsOfOthers, IsOfStory, IsOther, IsStoreAt, IsStoreStory, IsStoreTold, turn_of as turn_in};
 
 use crate::choosing::{choose, choose_store, nothing};

@@ -7,7 +7,7 @@ ghost use Rattle.pmt_model.specs.Machine.{Stores};
 ghost use Rattle.pmt_model.specs.Traces.{Recording, IsAct};
 ghost use Rattle.pmt_model.specs.Selections.{Has};
 ghost use Rattle.pmt_reasons.specs.declared.failure.Failure.{Failure};
-ghost use Rattle.pmt_slices.specs.Choosing.{Chooses, IsOfFailure};
+ghost use Rattle.pmt_slices.specs.Slices.{Chooses, IsOfFailure};
 ghost use Rattle.pmt_slices.specs.Stories.{HasLost, IsStory, IsTold};
 
 use crate::after::coming_after;

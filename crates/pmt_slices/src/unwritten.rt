@@ -5,7 +5,7 @@ ghost use Rattle.pmt_model.specs.Values.{Span, IsStore};
 ghost use Rattle.pmt_model.specs.Machine.{Stores, writes};
 ghost use Rattle.pmt_model.specs.Traces.{Recording, IsAct};
 ghost use Rattle.pmt_model.specs.Assertions.{InSpan};
-ghost use Rattle.pmt_slices.specs.Scanning.{IsUnwritten, AreUnwritten};
+ghost use Rattle.pmt_slices.specs.Slices.{IsUnwritten, AreUnwritten};
 ghost use Rattle.pmt_slices.specs.Taking.{TakesBytes, TakesStore};
 
 use pmt_model::{OutOfMemory, Range, WordStore};

@@ -1,5 +1,5 @@
 -- Where lines end.
-use Rattle.std.proofs.Common.{◌≡◌, ◌≢◌, ℕ, zero, suc, ◌+◌, ◌-◌, ◌<◌, ◌≤◌, ◌==◌, List, [], ◌∷◌, take, drop, length, get_or, refl, sym, ap, ◌∙◌, arith, Some, None}
+use Rattle.std.proofs.Common.{◌≡◌, ◌≢◌, ℕ, zero, suc, ◌+◌, ◌-◌, ◌<◌, ◌≤◌, ◌==◌, List, [], ◌∷◌, take, drop, length, get_or, refl, sym, ap, ◌∙◌, arith, None}
 use Rattle.std.proofs.lemmas.Bool.{cond-true, cond-false, eq-eqb, eqb-true, ne_eqb}
 use Rattle.memchr.specs.Find.{Passes, is_byte}
 use Rattle.pmt_sources.specs.Lines.{front_line, after_line, after_lines, first_line}
@@ -52,10 +52,6 @@ pub ended : (n k : ℕ) (text : List ℕ) → k ≤ n → after_lines k text ≡
 ended n k text by is =
     let m : n ≡ k + (n - k) = omega arith in
     ap (λ i. first_line (after_lines i text)) m ∙ ap first_line (after-rest k (n - k) text ∙ ap (after_lines (n - k)) is ∙ after-nothing (n - k))
-
-pub first-some : (text : List ℕ) → length text ≢ 0 → Some (front_line text) ≡ first_line text
-first-some [] some = absurd (some refl)
-first-some (b ∷ text) some = refl
 
 -- what a search for LF tells
 pub byte-is : (text : List ℕ) (k : ℕ) → Passes (is_byte 10) text k → get_or text k 0 ≡ 10

@@ -1,10 +1,9 @@
 -- Which place the label of an event names.
-use Rattle.std.proofs.Common.{◌≡◌, ℕ, ◌==◌, Bool, false, List, length, Option, None, Some, option_map, sym, ap, subst, ◌∙◌, arith}
+use Rattle.std.proofs.Common.{◌≡◌, ℕ, ◌==◌, Bool, false, List, length, Option, None, Some, sym, ap, subst, ◌∙◌, arith}
 use Rattle.std.specs.Prelude.{Decides, MatchOption}
 use Rattle.std.specs.List.{position_or_len}
 use Rattle.std.proofs.lemmas.List.{take_all}
-use Rattle.pmt_asked.specs.Labelling.{label_of}
-use Rattle.pmt_asked.specs.Framing.{frame_of, inner_frame}
+use Rattle.pmt_asked.specs.Framing.{frame_of}
 use Rattle.pmt_asked.specs.declared.labels.Labels.{Labels}
 use Rattle.pmt_sources.specs.declared.place.SourcePlace.{SourcePlace}
 use Rattle.pmt_sources.specs.Places.{AreSame, IsPlace}
@@ -27,10 +26,6 @@ named-by labels i frame word None own is none = λ f l n.
     let same : frame ≡ n.frame = same-frame labels i frame n.frame own n.own in
     none f l (subst (λ w. IsPlace w f l) (ap first_word (sym same) ∙ sym is) n.place)
 named-by labels i frame word (Some p) own is place = record { frame = frame; own = own; place = subst (λ w. IsPlace w p.file.now p.line) is place }
-
--- an event without a label names nothing
-pub names-nothing : (labels : Labels) (i : ℕ) → label_of labels i ≡ None → (f : List ℕ) (l : ℕ) → Names labels i f l → ⊥
-names-nothing labels i none f l n = let both : None ≡ Some n.frame = sym (ap (option_map inner_frame) none) ∙ n.own in absurd cc
 
 -- a word names one place
 one-place : (word f g : List ℕ) (l m : ℕ) → IsPlace word f l → IsPlace word g m → (f ≡ g) × (l ≡ m)

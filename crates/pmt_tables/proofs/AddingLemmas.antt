@@ -3,7 +3,7 @@ use Rattle.std.proofs.Common.{◌≡◌, ℕ, ◌-◌, ◌<◌, ◌≤◌, ◌�
 use Rattle.std.specs.Prelude.{if◌then◌else◌, ◌↔◌, nat_le, nat_lt}
 use Rattle.std.proofs.lemmas.Bool.{cases_lt, cases_eq, eq-eqb, ne_eqb, and_parts, leb-true}
 use Rattle.std.proofs.lemmas.Bool.Decides.{nat_tests}
-use Rattle.std.proofs.lemmas.List.{map-append, append-nil}
+use Rattle.std.proofs.lemmas.List.{map-append}
 use Rattle.pmt_model.specs.Selections.{IsRising, Has}
 use Rattle.pmt_tables.specs.declared.words.Overwrite.{Overwrite}
 use Rattle.pmt_tables.specs.Lasts.{is_in, IsLastTo, AddsOverwritten, IsLeastAbove}
@@ -36,19 +36,6 @@ pub record IsAdding (flush later low high : ℕ) (last : ℕ → ℕ) (old new :
 -- the least above a bound that is no last store is below the next one
 least-tells : (above low high : ℕ) (last : ℕ → ℕ) (next j : ℕ) → IsLeastAbove above low high last next → IsLastTo low high last j → above < j → (0 < next) × (next ≤ j)
 least-tells above low high last next j it x more = let y = it.least x.0 x.1 x.2 (omega (arith, more, x.3)) in (y.0, omega (arith, y.1, x.3))
-
-pub adding-starts : (flush later low high : ℕ) (last : ℕ → ℕ) (old : List Overwrite) (next : ℕ) → IsLeastAbove flush low high last next → IsAdding flush later low high last old old next
-adding-starts flush later low high last old next it = record {
-  found = [];
-  added = sym (append-nil old);
-  rising = tt;
-  just = λ j. (λ none. absurd none, λ x. none j x.0 x.1 x.2);
-  is_next = it.reached;
-}
-  where
-    none : (j : ℕ) → flush < j → (next ≡ 0) ⊎ (j < next) → IsLastTo low high last j → ⊥
-    none j more (inl e) x = omega (arith, e, (least-tells flush low high last next j it x more).0)
-    none j more (inr less) x = omega (arith, less, (least-tells flush low high last next j it x more).1)
 
 pub adding-more : (flush later low high : ℕ) (last : ℕ → ℕ) (old new : List Overwrite) (next after : ℕ) → (next ≡ 0 → ⊥) → IsLeastAbove next low high last after → IsAdding flush later low high last old new next →
     IsAdding flush later low high last old (new ++ record { earlier = next; later = later } ∷ []) after
@@ -86,14 +73,6 @@ adding-more flush later low high last old new next after some it adding = record
       | inl less ↦ inl ((adding.just j).1 (more, inr less, x))
       | inr from ↦ elim (cases_lt next j) [ inl later_ ↦ absurd (past j later_ bound x) | inr to ↦ inr (omega (arith, from, to)) ]
     ]
-
-pub adding-ends : (flush later low high : ℕ) (last : ℕ → ℕ) (old new : List Overwrite) (next : ℕ) → next ≡ 0 → IsAdding flush later low high last old new next → AddsOverwritten flush later low high last old new
-adding-ends flush later low high last old new next none adding = record {
-  found = adding.found;
-  added = adding.added;
-  rising = adding.rising;
-  just = λ j. (λ has. let x = (adding.just j).0 has in (x.0, x.2), λ x. (adding.just j).1 (x.0, inl none, x.1));
-}
 
 -- the next one comes later, or there is none
 pub next-falls : (above low high next after : ℕ) (last : ℕ → ℕ) → (next ≡ 0 → ⊥) → next ≡ above → next < 2 ^ 32 → IsLeastAbove above low high last after →
@@ -157,11 +136,3 @@ module _ (w flush later low high : ℕ) (old : List Overwrite) (covered : is_cov
         where
           own : (w : ℕ) → low_of w < high_of w → last_by w (low_of w) ≡ number_of w
           own w some = grind (arith, nat_tests, some)
-
-  pub whole-none : number_of w ≤ flush → AddsOverwritten flush later low high (last_by w) old old
-  whole-none less = record {
-    found = [];
-    added = sym (append-nil old);
-    rising = tt;
-    just = λ j. (λ none. absurd none, λ x. absurd (omega (arith, less, x.0, last-above j x.0 x.1)));
-  }

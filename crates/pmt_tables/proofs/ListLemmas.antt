@@ -55,10 +55,6 @@ get-left [] ys p x at = absurd (cc)
 get-left (y ∷ xs) ys zero x at = at
 get-left (y ∷ xs) ys (suc p) x at = get-left xs ys p x at
 
-pub get-last : {X : Type 0} (xs : List X) (x : X) → slice_get (xs ++ x ∷ []) (length xs) ≡ Some x
-get-last [] x = refl
-get-last (y ∷ xs) x = get-last xs x
-
 pub push-cases : {X : Type 0} (xs : List X) (x y : X) (p : ℕ) → slice_get (xs ++ x ∷ []) p ≡ Some y → (slice_get xs p ≡ Some y) ⊎ ((p ≡ length xs) × (x ≡ y))
 push-cases [] x y zero at = inr (refl, same_Some x y at)
 push-cases [] x y (suc p) at = absurd (cc)

@@ -9,12 +9,10 @@ use Rattle.pmt_model.specs.Traces.{Recording, IsAct}
 use Rattle.pmt_model.specs.Fronts.{front_at}
 use Rattle.pmt_model.specs.Selections.{IsRising, Has}
 use Rattle.pmt_laws.proofs.Histories.{act-within, act-unique}
-use Rattle.pmt_lines.specs.Raises.{Raise, RaisesBetween, IsRaises}
+use Rattle.pmt_lines.specs.Jobs.{Raise, RaisesBetween, IsRaises, last_number, IsKind, IsStepOf, Touches, ByFlush, IsWalkFrom, IsJobOf}
 use Rattle.pmt_lines.specs.declared.step.StepKind.{StepKind}
 use Rattle.pmt_lines.specs.declared.step.StepKind.TheVariants.{Store, Flush, Clflush, Fence}
 use Rattle.pmt_lines.specs.declared.step.Step.{Step}
-use Rattle.pmt_lines.specs.Steps.{last_number}
-use Rattle.pmt_lines.specs.Jobs.{IsKind, IsStepOf, Touches, ByFlush, IsWalkFrom, IsJobOf}
 use Rattle.pmt_trim.specs.Kept as kept
 use Rattle.pmt_trim.specs.Kept.{IsKeptFor, IsLineKept}
 use Rattle.pmt_trim.specs.Backwards.{is_kept, waiting_before, LastIsAt, LastIsElsewhere}

@@ -3,10 +3,8 @@ use Rattle.std.proofs.Common.{◌≡◌, ℕ, ◌-◌, ◌<◌, Bool, List, leng
 use Rattle.std.specs.Prelude.{slice_get}
 use Rattle.std.proofs.lemmas.Option.{slice_get-get_or}
 use Rattle.pmt_model.specs.Traces.{Recording}
-use Rattle.pmt_lines.specs.Raises.{Raise}
+use Rattle.pmt_lines.specs.Jobs.{Raise, LineWork, last_number, IsJobOf}
 use Rattle.pmt_lines.specs.declared.step.Step.{Step}
-use Rattle.pmt_lines.specs.Steps.{LineWork, last_number}
-use Rattle.pmt_lines.specs.Jobs.{IsJobOf}
 use Rattle.pmt_trim.specs.Kept.{IsJobKept}
 use Rattle.pmt_trim.proofs.BackLemmas.{IsPassed, passed-all}
 

@@ -3,7 +3,7 @@ use Rattle.std.proofs.Common.{◌≡◌, ◌≢◌, ℕ, suc, ◌<◌, ◌≤◌
 use Rattle.std.proofs.lemmas.Bool.{cases_lt}
 use Rattle.pmt_model.specs.Traces.{Recording}
 use Rattle.pmt_model.specs.Fronts.{front_at}
-use Rattle.pmt_lines.specs.Raises.{Raise, RaisesBetween}
+use Rattle.pmt_lines.specs.Jobs.{Raise, RaisesBetween}
 use Rattle.pmt_trim.specs.Backwards.{LastIsElsewhere}
 
 -- they lie between two places in order

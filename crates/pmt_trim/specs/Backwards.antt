@@ -3,7 +3,7 @@
 use Rattle.std.specs.Prelude.{◌≡◌, ◌≢◌, ℕ, Bool, false, List, [], ◌∷◌, ◌++◌, slice_index_or, slice_set}
 use Rattle.pmt_lines.specs.declared.step.StepKind.{StepKind}
 use Rattle.pmt_lines.specs.declared.step.StepKind.TheVariants.{Store, Flush, Clflush, Fence}
-use Rattle.pmt_lines.specs.Raises.{Raise}
+use Rattle.pmt_lines.specs.Jobs.{Raise}
 
 -- Whether the step by thread t is kept: a flush where the thread waits, a clflush or a fence where it raises the front.
 abbrev pub is_kept : StepKind → ℕ → Bool → List Bool → Bool

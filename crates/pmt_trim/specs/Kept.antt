@@ -5,8 +5,7 @@ use Rattle.pmt_model.specs.Traces.{Recording, IsAct, history, lines_of}
 use Rattle.pmt_model.specs.Fronts.{front_at}
 use Rattle.pmt_model.specs.Selections.{IsRising, Has}
 use Rattle.pmt_model.specs.Keeping.{IsUsefulFlush, IsUsefulClflush}
-use Rattle.pmt_lines.specs.Steps.{LineWork}
-use Rattle.pmt_lines.specs.Jobs.{IsJobOf}
+use Rattle.pmt_lines.specs.Jobs.{LineWork, IsJobOf}
 
 -- Event n is kept for line l: a useful flush or clflush of it, or a fence that raises its front.
 pub data IsKeptFor (T : Recording) (l n : ℕ) : Type 0 where

@@ -1,7 +1,7 @@
 -- Answers to jobs, one after another.
 use Rattle.std.proofs.Common.{ℕ, List, [], ◌∷◌, ◌++◌, take, drop, subst}
 use Rattle.std.proofs.lemmas.List.{take-append-drop}
-use Rattle.pmt_lines.specs.Steps.{LineWork}
+use Rattle.pmt_lines.specs.Jobs.{LineWork}
 use Rattle.pmt_workers.specs.declared.shard.LineAnswer.{LineAnswer}
 use Rattle.pmt_workers.specs.Answering.{AreAnswersTo}
 

@@ -4,7 +4,7 @@ use Rattle.std.proofs.lemmas.Bool.{cases_lt}
 use Rattle.std.proofs.lemmas.List.{take_more, take-append-drop}
 use Rattle.pmt_model.specs.Traces.{event_limit}
 use Rattle.pmt_lines.specs.declared.step.Step.{Step}
-use Rattle.pmt_lines.specs.Steps.{LineWork, AreSteps}
+use Rattle.pmt_lines.specs.Jobs.{LineWork, AreSteps}
 use Rattle.pmt_workers.specs.Halving.{steps_of, apart}
 
 -- The steps of jobs one after another.

@@ -2,9 +2,7 @@
 use Rattle.std.proofs.Common.{◌≡◌, ℕ, List, [], ◌∷◌, map, length, refl, sym, ap, ap₂, ◌∙◌, subst}
 use Rattle.std.specs.List.{AllByRecursion}
 use Rattle.pmt_model.specs.Traces.{Recording, history, lines_of}
-use Rattle.pmt_lines.specs.Steps.{LineWork}
-use Rattle.pmt_lines.specs.Raises.{LineFound}
-use Rattle.pmt_lines.specs.Splitting.{IsJob, IsLeanJob, line_in}
+use Rattle.pmt_lines.specs.Jobs.{LineWork, LineFound, IsJob, IsLeanJob, line_in}
 use Rattle.pmt_findings.specs.Merging.{job_in}
 use Rattle.pmt_trim.specs.Kept.{AreLinesKept}
 use Rattle.pmt_workers.specs.declared.shard.LineAnswer.{LineAnswer}

@@ -1,7 +1,6 @@
 -- What the workers answer.
 use Rattle.std.specs.Prelude.{◌≡◌, List, [], ◌∷◌}
-use Rattle.pmt_lines.specs.Steps.{LineWork}
-use Rattle.pmt_lines.specs.Raises.{IsLineResult}
+use Rattle.pmt_lines.specs.Jobs.{LineWork, IsLineResult}
 use Rattle.pmt_trim.specs.Kept.{IsJobKept}
 use Rattle.pmt_workers.specs.declared.shard.LineAnswer.{LineAnswer}
 

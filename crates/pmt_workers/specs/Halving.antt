@@ -1,6 +1,6 @@
 -- How jobs are shared out.
 use Rattle.std.specs.Prelude.{◌≤◌, ℕ, ◌+◌, ◌-◌, List, [], ◌∷◌, length, take, drop}
-use Rattle.pmt_lines.specs.Steps.{LineWork}
+use Rattle.pmt_lines.specs.Jobs.{LineWork}
 
 -- The steps of all these jobs.
 abbrev pub steps_of : List LineWork → ℕ

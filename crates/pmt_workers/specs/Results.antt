@@ -1,6 +1,6 @@
 -- What the answers of the workers hold, taken apart.
 use Rattle.std.specs.Prelude.{ℕ, List}
-use Rattle.pmt_lines.specs.Raises.{LineFound}
+use Rattle.pmt_lines.specs.Jobs.{LineFound}
 use Rattle.pmt_workers.specs.declared.shard.LineAnswer.{LineAnswer}
 
 -- The result of an answer.

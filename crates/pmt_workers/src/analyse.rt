@@ -3,7 +3,7 @@ ghost use Rattle.std.specs.Prelude.{◌≡◌, ◌↔◌, IfOk, IfErr, IfSome, I
 ghost use Rattle.pmt_model.specs.Selections.{cut};
 ghost use Rattle.pmt_text.specs.Coming.{ComesWhole};
 ghost use Rattle.pmt_text.specs.Sources.{CountsReads};
-ghost use Rattle.pmt_lines.specs.Splitting.{IsSplit};
+ghost use Rattle.pmt_lines.specs.Jobs.{IsSplit};
 ghost use Rattle.pmt_taking.specs.Sourcing.{IsFaultOf};
 ghost use Rattle.pmt_trimming.specs.Headline.{IsTrimmed};
 ghost use Rattle.pmt_analysis.specs.Analysing.{IsAnalysed};

@@ -1,6 +1,6 @@
 //! The calls of a shard of all jobs, and those that join what it answers.
 ghost use Rattle.std.specs.Prelude.{◌≡◌, map, IfOk};
-ghost use Rattle.pmt_lines.specs.Splitting.{IsSplit};
+ghost use Rattle.pmt_lines.specs.Jobs.{IsSplit};
 ghost use Rattle.pmt_trim.specs.Kept.{AreAllKept};
 ghost use Rattle.pmt_asserts.specs.Tables.{AreResultsOf};
 ghost use Rattle.pmt_workers.specs.Answering.{AreAnswersTo};

@@ -2,9 +2,7 @@ use Rattle.std.proofs.Common.{◌≡◌, ◌+◌, ◌<◌, false, not, get_or, d
 use Rattle.std.proofs.lemmas.Grind.{elements}
 use Rattle.std.proofs.lemmas.List.{get_or-replicate}
 use Rattle.std.proofs.lemmas.Bool.{and_from, and_left, and_right, not_from_true, not_from_false}
-use Rattle.pmt_lines.specs.Steps.{AreSteps, is_fence}
-use Rattle.pmt_lines.specs.Jobs.{IsThreadJobOf}
-use Rattle.pmt_lines.specs.Fences.{IsThreadResult, IsEmptyFences}
+use Rattle.pmt_lines.specs.Jobs.{AreSteps, is_fence, IsThreadJobOf, IsThreadResult, IsEmptyFences}
 use Rattle.pmt_lines.proofs.StepLemmas.{no_step}
 use Rattle.pmt_lines.proofs.FenceRunLemmas.{fences-start, fences-next, fences-past, fences-quiet, fences-told, fences-end}
 use Rattle.pmt_lines.proofs.fences.run_fences.Goals as goal

@@ -1,5 +1,5 @@
 use Rattle.std.proofs.Common.{◌≡◌, drop}
-use Rattle.pmt_lines.specs.Scans.{last_flush_of}
+use Rattle.pmt_lines.specs.Jobs.{last_flush_of}
 use Rattle.pmt_lines.proofs.line_findings.last_flush.Given as goal
 
 abbrev pub invariant-loop-step : goal.invariant-loop-step

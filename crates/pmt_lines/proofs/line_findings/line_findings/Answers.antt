@@ -1,6 +1,5 @@
 use Rattle.std.proofs.Common.{◌+◌, drop, sym, append-nil}
-use Rattle.pmt_lines.specs.Steps.{AreSteps}
-use Rattle.pmt_lines.specs.Jobs.{IsJobOf}
+use Rattle.pmt_lines.specs.Jobs.{AreSteps, IsJobOf}
 use Rattle.pmt_lines.proofs.FoundLemmas.{scanning-start, scanning-next, scanning-end, scanning-at, scanning-past}
 use Rattle.pmt_lines.proofs.line_findings.line_findings.Goals as goal
 

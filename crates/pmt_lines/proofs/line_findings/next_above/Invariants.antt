@@ -1,5 +1,5 @@
 use Rattle.std.proofs.Common.{◌≡◌, ◌<◌, ◌⊎◌, take}
-use Rattle.pmt_lines.specs.Scans.{IsNoneAbove, IsNextAbove}
+use Rattle.pmt_lines.specs.Jobs.{IsNoneAbove, IsNextAbove}
 use Rattle.pmt_lines.proofs.line_findings.next_above.Given as goal
 
 -- none of the numbers so far is above low, or this is the least that is

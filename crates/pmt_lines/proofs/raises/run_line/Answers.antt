@@ -2,9 +2,7 @@ use Rattle.std.proofs.Common.{◌+◌, ◌∙◌, [], drop, ap, arith}
 use Rattle.std.proofs.lemmas.Grind.{elements}
 use Rattle.std.proofs.lemmas.Bool.{both_ways}
 use Rattle.pmt_model.specs.Traces.{Recording}
-use Rattle.pmt_lines.specs.Jobs.{IsJobOf}
-use Rattle.pmt_lines.specs.Scans.{last_flush_of}
-use Rattle.pmt_lines.specs.Raises.{IsLineResult}
+use Rattle.pmt_lines.specs.Jobs.{IsJobOf, last_flush_of, IsLineResult}
 use Rattle.pmt_lines.proofs.StepLemmas.{no_step}
 use Rattle.pmt_lines.proofs.RunLemmas.{Running, running-next, running-past, running-room, running-quiet, running-raised, running-end, running-follows}
 use Rattle.pmt_lines.proofs.FoundLemmas.{ending-flush}

@@ -1,6 +1,6 @@
 use Rattle.std.proofs.Common.{◌≡◌, ◌+◌, ◌<◌, ◌≤◌, ◌++◌, ◌∷◌, [], length, get_or, set, take, ap, ◌∙◌, arith}
 use Rattle.std.proofs.lemmas.List.{take_more, set-get_or}
-use Rattle.pmt_lines.specs.Steps.{LineWork, last_number, with_step}
+use Rattle.pmt_lines.specs.Jobs.{LineWork, last_number, with_step}
 use Rattle.pmt_lines.proofs.PlaceLemmas.{ends-more, ends-same}
 use Rattle.pmt_lines.proofs.splitter.end_intervals.Goals as goal
 use Rattle.pmt_lines.proofs.splitter.end_intervals.Goals.{then-last_number-fence+in_ok-push, else-last_number-fence}

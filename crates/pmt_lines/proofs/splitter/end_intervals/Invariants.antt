@@ -1,5 +1,5 @@
 use Rattle.std.proofs.Common.{take}
-use Rattle.pmt_lines.specs.Splitting.{EndsAt}
+use Rattle.pmt_lines.specs.Jobs.{EndsAt}
 use Rattle.pmt_lines.proofs.splitter.end_intervals.Given as goal
 
 abbrev pub invariant-loop-place : goal.invariant-loop-place

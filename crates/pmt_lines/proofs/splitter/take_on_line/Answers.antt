@@ -4,8 +4,7 @@ use Rattle.std.specs.Prelude.{nat_eq, slice_get}
 use Rattle.std.specs.List.{IsDistinct}
 use Rattle.std.proofs.lemmas.List.{get_or_default}
 use Rattle.pmt_model.specs.Traces.{with_line}
-use Rattle.pmt_lines.specs.Steps.{LineWork, last_number, with_step}
-use Rattle.pmt_lines.specs.Splitting.{with_job, TakesOnLine}
+use Rattle.pmt_lines.specs.Jobs.{LineWork, last_number, with_step, with_job, TakesOnLine}
 use Rattle.pmt_lines.proofs.PlaceLemmas.{takes_on_line, insert_key-with_line, end_before-with_job, has_line-from_new, has_line-from_old, with_job-new, with_job-old}
 use Rattle.pmt_lines.proofs.splitter.take_on_line.Goals as goal
 use Rattle.pmt_lines.proofs.splitter.take_on_line.Goals.{then-is_new+in_ok-push, else-is_new, After-index_mut}

@@ -1,6 +1,6 @@
 use Rattle.std.proofs.Common.{◌≡◌, ◌+◌, suc, sym, ap, subst, ◌∙◌, arith}
 use Rattle.pmt_model.specs.Values.{Span, line_of}
-use Rattle.pmt_slices.specs.Scanning.{IsComing, IsScan}
+use Rattle.pmt_slices.specs.Slices.{IsComing, IsScan}
 use Rattle.pmt_slices.proofs.ScanLemmas.{byte-span, byte-inside, byte-of}
 use Rattle.pmt_slices.proofs.after.coming_after.Goals as goal
 

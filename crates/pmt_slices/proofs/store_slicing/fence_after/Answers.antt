@@ -2,7 +2,7 @@ use Rattle.std.proofs.Common.{◌≡◌, ◌<◌, ◌≤◌, ◌+◌, suc, false
 use Rattle.pmt_model.specs.Traces.{IsAct, act_of}
 use Rattle.pmt_explain.specs.Following.{IsFirst, IsFenceAfter, past_of}
 use Rattle.pmt_explain.proofs.FollowingLemmas.{event-at}
-use Rattle.pmt_slices.specs.Fates.{is_fence}
+use Rattle.pmt_slices.specs.Slices.{is_fence}
 use Rattle.pmt_slices.proofs.StoreSliceLemmas.{no-fence-more, fence-found, no-fence-found}
 use Rattle.pmt_slices.proofs.store_slicing.fence_after.Goals as goal
 use Rattle.pmt_slices.proofs.store_slicing.fence_after.Goals.{else-event-thread-via-then-event-thread+else-is_fence, else-event-thread-via-else-event-thread}

@@ -1,5 +1,5 @@
 use Rattle.std.proofs.Common.{◌<◌, ◌≤◌, length, arith}
-use Rattle.pmt_slices.specs.StoreSlices.{IsLostOrLate}
+use Rattle.pmt_slices.specs.Slices.{IsLostOrLate}
 use Rattle.pmt_slices.proofs.StoreSliceLemmas.{is-lost, is-late, is-neither}
 use Rattle.pmt_slices.proofs.store_slicing.slice_if_lost.Goals as goal
 use Rattle.pmt_slices.proofs.store_slicing.slice_if_lost.Goals.{else-fate-end-via-then-fate-end+else-fate, else-fate-end-via-else-fate-end}

@@ -1,7 +1,5 @@
 use Rattle.std.proofs.Common.{◌≡◌, length, sym, ap, subst, ◌∙◌, arith}
-use Rattle.pmt_slices.specs.Scanning.{IsChosen}
-use Rattle.pmt_slices.specs.Choosing.{Chooses}
-use Rattle.pmt_slices.specs.Fates.{IsOfFate}
+use Rattle.pmt_slices.specs.Slices.{IsChosen, Chooses, IsOfFate}
 use Rattle.pmt_slices.proofs.TakenLemmas.{refill-all}
 use Rattle.pmt_slices.proofs.StoreSliceLemmas.{slice-made}
 use Rattle.pmt_slices.proofs.store_slicing.store_slice.Goals as goal

@@ -1,4 +1,4 @@
-use Rattle.pmt_slices.specs.Choosing.{Chooses}
+use Rattle.pmt_slices.specs.Slices.{Chooses}
 use Rattle.pmt_slices.proofs.StoreStoryLemmas.{IsFewBy}
 use Rattle.pmt_slices.proofs.store_story.choose_others.Given as goal
 

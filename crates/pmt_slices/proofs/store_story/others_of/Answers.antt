@@ -1,6 +1,5 @@
 use Rattle.std.proofs.Common.{◌≡◌, length, sym, ap, subst, ◌∙◌, arith}
-use Rattle.pmt_slices.specs.Scanning.{IsChosen}
-use Rattle.pmt_slices.specs.Choosing.{Chooses}
+use Rattle.pmt_slices.specs.Slices.{IsChosen, Chooses}
 use Rattle.pmt_slices.specs.StoreStories.{IsOther}
 use Rattle.pmt_slices.proofs.TakenLemmas.{refill-all}
 use Rattle.pmt_slices.proofs.StoreStoryLemmas.{others-made}

@@ -1,8 +1,7 @@
 use Rattle.std.proofs.Common.{◌≡◌, ◌-◌, ◌<◌, length, get_or, reverse, true, false, refl, sym, ap, subst, ◌∙◌, arith}
 use Rattle.std.proofs.lemmas.List.{take_all}
 use Rattle.pmt_lines.specs.declared.step.Step.{Step}
-use Rattle.pmt_lines.specs.Steps.{LineWork}
-use Rattle.pmt_lines.specs.Raises.{IsRaises}
+use Rattle.pmt_lines.specs.Jobs.{LineWork, IsRaises}
 use Rattle.pmt_lines.proofs.StepLemmas.{no_step}
 use Rattle.pmt_trim.proofs.BackLemmas.{passed-turn, passed-none, turn, reverse-push}
 use Rattle.pmt_trim.proofs.KeptLemmas.{all-kept, step-at}

@@ -2,9 +2,7 @@ use Rattle.std.proofs.Common.{◌≡◌, ℕ, List, map, length, Vec, Global, sy
 use Rattle.std.specs.List.{flat_map}
 use Rattle.std.proofs.lemmas.List.{length-map}
 use Rattle.pmt_model.specs.Traces.{Recording, IsTrace}
-use Rattle.pmt_lines.specs.Steps.{LineWork}
-use Rattle.pmt_lines.specs.Raises.{LineFound}
-use Rattle.pmt_lines.specs.Splitting.{line_in, IsSplit}
+use Rattle.pmt_lines.specs.Jobs.{LineWork, LineFound, line_in, IsSplit}
 use Rattle.pmt_findings.specs.Merging.{job_in}
 use Rattle.pmt_trim.specs.Kept.{AreLinesKept, AreAllKept}
 use Rattle.pmt_asserts.specs.Tables.{AreResultsOf}

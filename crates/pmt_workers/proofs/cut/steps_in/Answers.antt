@@ -1,5 +1,5 @@
 use Rattle.std.proofs.Common.{◌≡◌, ◌+◌, ◌≤◌, length, ◌∙◌, ap, arith, get_or}
-use Rattle.pmt_lines.specs.Steps.{LineWork}
+use Rattle.pmt_lines.specs.Jobs.{LineWork}
 use Rattle.pmt_workers.proofs.CutLemmas.{steps_of-more, steps-few}
 use Rattle.pmt_workers.proofs.cut.steps_in.Goals as goal
 

@@ -2,7 +2,7 @@ use Rattle.std.proofs.Common.{ℕ, List, ◌++◌, take, drop, subst, sym, rules
 use Rattle.std.specs.List.{flat_map}
 use Rattle.std.proofs.lemmas.Grind.{flat_map-append}
 use Rattle.std.proofs.lemmas.Result.{IfOk-weaker}
-use Rattle.pmt_lines.specs.Steps.{LineWork}
+use Rattle.pmt_lines.specs.Jobs.{LineWork}
 use Rattle.pmt_workers.specs.declared.shard.LineAnswer.{LineAnswer}
 use Rattle.pmt_workers.specs.Answering.{AreAnswersTo}
 use Rattle.pmt_workers.proofs.AnswerLemmas.{AreAnswersTo-parts}

@@ -2,7 +2,7 @@ use Rattle.std.proofs.Common.{◌≡◌, List, ◌∷◌, [], sym, subst, ◌∙
 use Rattle.std.proofs.lemmas.List.{map-id}
 use Rattle.std.proofs.lemmas.Iterator.Adapters.{YieldsList-from_vec}
 use Rattle.std.proofs.lemmas.Iterator.Consumers.{YieldsList-end}
-use Rattle.pmt_lines.specs.Steps.{LineWork}
+use Rattle.pmt_lines.specs.Jobs.{LineWork}
 use Rattle.pmt_workers.specs.Answering.{AreAnswersTo}
 use Rattle.pmt_workers.proofs.AnswerLemmas.{AreAnswersTo-append}
 use Rattle.pmt_workers.proofs.shard.run_shard.Goals as goal

@@ -1,8 +1,6 @@
 use Rattle.std.proofs.Common.{◌≡◌, ℕ, List, map, Vec, Global, sym, ap, ◌∙◌, subst}
 use Rattle.pmt_model.specs.Traces.{Recording}
-use Rattle.pmt_lines.specs.Steps.{LineWork}
-use Rattle.pmt_lines.specs.Raises.{LineFound}
-use Rattle.pmt_lines.specs.Splitting.{line_in}
+use Rattle.pmt_lines.specs.Jobs.{LineWork, LineFound, line_in}
 use Rattle.pmt_trim.specs.Kept.{AreLinesKept, AreAllKept}
 use Rattle.pmt_asserts.specs.Tables.{AreResultsOf}
 use Rattle.pmt_workers.specs.Results.{kept_in}

@@ -1,7 +1,7 @@
 use Rattle.std.proofs.Common.{◌≡◌, ap, ◌∙◌, rules}
 use Rattle.std.specs.Prelude.{nat_le}
 use Rattle.std.proofs.lemmas.List.Sorted.{IsPartitionPoint-from_clause}
-use Rattle.pmt_lines.specs.Raises.{LineFound}
+use Rattle.pmt_lines.specs.Jobs.{LineFound}
 use Rattle.pmt_asserts.specs.declared.put.Put.{Put}
 use Rattle.pmt_asserts.specs.Puts.{puts_of}
 use Rattle.pmt_asserts.proofs.TableLemmas.{puts-partitioned, count-found}

@@ -1,7 +1,7 @@
 use Rattle.std.proofs.Common.{◌≡◌, ◌-◌, List, get_or, ap, subst, sym, ◌∙◌, arith, rules}
 use Rattle.std.specs.Prelude.{nat_le}
 use Rattle.std.proofs.lemmas.List.Sorted.{IsPartitionPoint-from_clause, IsPartitionedBy-leb}
-use Rattle.pmt_lines.specs.Raises.{LineFound}
+use Rattle.pmt_lines.specs.Jobs.{LineFound}
 use Rattle.pmt_asserts.specs.declared.put.Write.{Write}
 use Rattle.pmt_asserts.specs.Puts.{puts_of, key_of, AreWritesOf}
 use Rattle.pmt_asserts.proofs.RankLemmas.{Ends, found-none, found-other, found-last}

@@ -1,6 +1,6 @@
 use Rattle.std.proofs.Common.{◌≡◌, ◌∙◌, ap, subst, sym}
 use Rattle.std.specs.Prelude.{All}
-use Rattle.pmt_lines.specs.Steps.{LineWork}
+use Rattle.pmt_lines.specs.Jobs.{LineWork}
 use Rattle.pmt_asserts.specs.Puts.{puts_of, Fits, AreWritesOf}
 use Rattle.pmt_asserts.proofs.BuildLemmas.{puts-fit}
 use Rattle.pmt_asserts.proofs.table.LineTable.new.Goals as goal

@@ -1,5 +1,5 @@
 use Rattle.std.proofs.Common.{◌-◌, ◌∙◌, ap, length, subst, sym, arith, rules}
-use Rattle.pmt_lines.specs.Raises.{LineFound}
+use Rattle.pmt_lines.specs.Jobs.{LineFound}
 use Rattle.pmt_asserts.specs.declared.put.Put.{Put}
 use Rattle.pmt_asserts.specs.Puts.{puts_of, last_in, IsLeastIn}
 use Rattle.pmt_asserts.specs.Tables.{IsOldest}

@@ -1,5 +1,5 @@
 use Rattle.std.proofs.Common.{◌<◌}
-use Rattle.pmt_lines.specs.Steps.{last_number}
+use Rattle.pmt_lines.specs.Jobs.{last_number}
 use Rattle.pmt_lines.proofs.StepLemmas.{are_steps-push}
 use Rattle.pmt_lines.proofs.thread_job.ThreadJob.push.Goals as goal
 
