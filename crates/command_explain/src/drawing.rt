@@ -10,7 +10,7 @@ use pmt_asked::{Kind, Labels};
 use pmt_draw::svg_text;
 use pmt_explain_run::explain;
 use pmt_explanation::Explanation;
-use pmt_picture::{Known, Refusal, Subject, about_of, picture_of, refusal_of};
+use pmt_picture::{DrawnSubject, KnownTrace, NotDrawn, about_of, picture_of, refusal_of};
 use pmt_text::TextSource;
 use std::alloc::Global;
 use std::io::{Read, Write};
@@ -89,7 +89,7 @@ fn svg_of(
     labels: &Labels,
 ) -> Result<String, Fault> {
     let analysis = &explanation.analysis;
-    let known = Known {
+    let known = KnownTrace {
         trace: analysis.trace(),
         lines: analysis.lines() as u64,
         verdicts: analysis.verdicts(),
@@ -98,8 +98,8 @@ fn svg_of(
     };
     let subject = match asked {
         AskedEvents::First => first_subject(explanation),
-        AskedEvents::Failure(number) => Subject::Failure(number),
-        AskedEvents::Around(number) => Subject::Around(number),
+        AskedEvents::Failure(number) => DrawnSubject::Failure(number),
+        AskedEvents::Around(number) => DrawnSubject::Around(number),
     };
     if let Some(refusal) = refusal_of(known, subject) {
         return Err(refused(alloc, refusal, known.trace.len()));
@@ -110,15 +110,15 @@ fn svg_of(
 }
 
 // The fault of words that are not of the trace with so many events.
-fn refused(alloc: Global, refusal: Refusal, events: usize) -> Fault {
+fn refused(alloc: Global, refusal: NotDrawn, events: usize) -> Fault {
     let message = match refusal {
-        Refusal::PastEnd(number) => format!(in alloc;
+        NotDrawn::PastEnd(number) => format!(in alloc;
             "event {number} lies past the end: the trace has {events} events"
         ),
-        Refusal::NoAssertion(number) => format!(in alloc;
+        NotDrawn::NoAssertion(number) => format!(in alloc;
             "event {number} is no assertion, so '--failure {number}' has nothing to draw"
         ),
-        Refusal::Passes(number) => format!(in alloc;
+        NotDrawn::Passes(number) => format!(in alloc;
             "the assertion of event {number} passes, so '--failure {number}' has nothing to draw"
         ),
     };

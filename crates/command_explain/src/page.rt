@@ -10,8 +10,8 @@ use command_requests::{ExplainWords, VERSION};
 use pmt_explanation::Explanation;
 use pmt_model::OutOfMemory;
 use pmt_page::{
-    About, Blocks, Columns, Found, Kept, Label, about_text, columns_of, digest_of, page_text,
-    sources_text,
+    About, Columns, EventFindings, Kept, Label, PageBlocks, about_text, columns_of, digest_of,
+    page_text, sources_text,
 };
 use std::alloc::Global;
 
@@ -131,7 +131,7 @@ fn page_within<O: Opener>(
     let events = explanation.analysis.trace().len() as u64;
     let named = page_labels(alloc, asked.beside.labels, events, room.labels)?;
     let sources = sources(alloc, files, &asked, named.list.as_slice(), room)?;
-    let blocks = Blocks {
+    let blocks = PageBlocks {
         text: asked.text,
         picture: asked.picture,
         about: b"",
@@ -149,14 +149,14 @@ fn with_columns(
     asked: Asked<'_>,
     explanation: &Explanation,
     labels_left_out: u64,
-    blocks: Blocks<'_>,
+    blocks: PageBlocks<'_>,
 ) -> Result<Vec<u8>, OutOfMemory> {
     let taken = size_without_columns(alloc, asked, explanation, labels_left_out, blocks)?;
     let columns = columns(alloc, explanation, MOST_PAGE.saturating_sub(taken))?;
     let about = about(alloc, explanation, asked, labels_left_out, columns.kept)?;
     page_text(
         alloc,
-        Blocks {
+        PageBlocks {
             about: about.as_slice(),
             columns: columns.text.as_slice(),
             ..blocks
@@ -170,7 +170,7 @@ fn size_without_columns(
     asked: Asked<'_>,
     explanation: &Explanation,
     labels_left_out: u64,
-    blocks: Blocks<'_>,
+    blocks: PageBlocks<'_>,
 ) -> Result<usize, OutOfMemory> {
     let about = about(
         alloc,
@@ -181,7 +181,7 @@ fn size_without_columns(
     )?;
     let page = page_text(
         alloc,
-        Blocks {
+        PageBlocks {
             about: about.as_slice(),
             ..blocks
         },
@@ -193,7 +193,7 @@ fn size_without_columns(
 fn columns(alloc: Global, explanation: &Explanation, most: usize) -> Result<Columns, OutOfMemory> {
     let trace = explanation.analysis.trace();
     let safe = safe_places(alloc, trace)?;
-    let found = Found {
+    let found = EventFindings {
         safe: safe.as_slice(),
         verdicts: explanation.analysis.verdicts(),
         dropped: explanation.dropped.as_slice(),

@@ -15,7 +15,7 @@ const AROUND: u64 = 5;
 
 /// Lines of a source file that follow each other.
 #[derive(Drop)]
-pub struct Part {
+pub struct LinesPart {
     /// The place of the file among the files, from 0.
     pub file: u64,
     /// The number of the first line, from 1.
@@ -30,7 +30,7 @@ pub struct Part {
 #[derive(Drop)]
 pub struct Lines {
     /// The lines.
-    pub parts: Vec<Part>,
+    pub parts: Vec<LinesPart>,
     // How many bytes names and lines may still have.
     room: usize,
     /// Whether all that was to be taken had room.
@@ -121,7 +121,7 @@ impl Lines {
                 return Ok(true);
             }
         }
-        self.parts.push(Part {
+        self.parts.push(LinesPart {
             file,
             first: number,
             lines: shown,

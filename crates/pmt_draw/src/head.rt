@@ -3,7 +3,7 @@ use crate::layout::{EDGE, LINE, Layout};
 use crate::shapes::push_shape;
 use crate::words::{push_assertion, push_cause, push_claim, push_event, push_kept, push_shown};
 use pmt_pen::Pen;
-use pmt_picture::{Crash, Picture, Subject};
+use pmt_picture::{DrawnCrash, DrawnSubject, Picture};
 use pmt_text::line_address;
 
 // The width of a letter of the told lines, in tenths of a pixel.
@@ -31,19 +31,19 @@ pub fn push_head(pen: &mut Pen, picture: &Picture, layout: &Layout) -> u64 {
 // Adds the words of the first line, which is the page's title too.
 fn push_headline(pen: &mut Pen, picture: &Picture) {
     match picture.subject {
-        Subject::Failure(_) => if let Some(crash) = picture.crash.as_ref() {
+        DrawnSubject::Failure(_) => if let Some(crash) = picture.crash.as_ref() {
             push_assertion(pen, crash);
             pen.put(".");
         },
-        Subject::Lost(group) => if let Some(crash) = picture.crash.as_ref() {
+        DrawnSubject::Lost(group) => if let Some(crash) = picture.crash.as_ref() {
             let line = line_address(picture.format, group.line);
             let count = crash.lost.len() as u64;
             pen.fill("Never persisted: #", &[count]);
             pen.put(if count == 1 { " store" } else { " stores" });
             pen.fill(" to line @", &[line]);
         },
-        Subject::Late(store) => pen.fill("Store # is saved late", &[store]),
-        Subject::Around(_) => match (picture.columns.first(), picture.columns.last()) {
+        DrawnSubject::Late(store) => pen.fill("Store # is saved late", &[store]),
+        DrawnSubject::Around(_) => match (picture.columns.first(), picture.columns.last()) {
             (Some(first), Some(last)) => pen.fill("Events # to #", &[first.number, last.number]),
             _ => pen.put("No events"),
         },
@@ -51,7 +51,7 @@ fn push_headline(pen: &mut Pen, picture: &Picture) {
 }
 
 // Adds what the crash's assertion claims, where it is drawn, what the crash shows and why, and answers where that ends.
-fn push_focus(pen: &mut Pen, picture: &Picture, crash: &Crash, letters: u64, top: u64) -> u64 {
+fn push_focus(pen: &mut Pen, picture: &Picture, crash: &DrawnCrash, letters: u64, top: u64) -> u64 {
     let mut claim = Pen::new(pen.alloc());
     if let Some(assertion) = crash.assertion {
         if let Some(column) = picture.column(assertion.number) {
@@ -70,7 +70,7 @@ fn push_focus(pen: &mut Pen, picture: &Picture, crash: &Crash, letters: u64, top
 
 // Adds what is told of a late store, where the picture is about one, and answers where that ends.
 fn push_late(pen: &mut Pen, picture: &Picture, letters: u64, top: u64) -> u64 {
-    let Subject::Late(store) = picture.subject else {
+    let DrawnSubject::Late(store) = picture.subject else {
         return top;
     };
     let mut words = Pen::new(pen.alloc());
@@ -113,10 +113,10 @@ fn push_left(pen: &mut Pen, picture: &Picture, letters: u64, top: u64) -> u64 {
 // Adds how many of the events that tell of the subject are not drawn, and how to see more.
 fn push_cut(words: &mut Pen, picture: &Picture) {
     let (option, number) = match picture.subject {
-        Subject::Failure(number) => ("failure", number),
-        Subject::Lost(group) => ("store", group.first),
-        Subject::Late(number) => ("store", number),
-        Subject::Around(_) => return,
+        DrawnSubject::Failure(number) => ("failure", number),
+        DrawnSubject::Lost(group) => ("store", group.first),
+        DrawnSubject::Late(number) => ("store", number),
+        DrawnSubject::Around(_) => return,
     };
     let drawn = picture.columns.len() as u64;
     if picture.cut > 0 {

@@ -1,6 +1,6 @@
 //! Where things stand on the page, in pixels. All sums stop at the greatest number.
 use pmt_model::OutOfMemory;
-use pmt_picture::{Picture, Row};
+use pmt_picture::{DrawnRow, Picture};
 use std::alloc::Global;
 
 /// The room left of the columns, where the rows are named.
@@ -244,7 +244,7 @@ fn widths(picture: &Picture) -> (u64, u64) {
 }
 
 /// The height of a line's row.
-pub fn row_height(row: &Row) -> u64 {
+pub fn row_height(row: &DrawnRow) -> u64 {
     LANE.saturating_mul(row.lanes as u64)
         .saturating_add(STRIP + 8)
         .max(ROW)

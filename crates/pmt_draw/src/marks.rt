@@ -2,7 +2,7 @@
 use crate::shapes::push_shape;
 use pmt_model::Op;
 use pmt_pen::Pen;
-use pmt_picture::{Column, Wanted};
+use pmt_picture::{Column, MissingKind};
 use pmt_reasons::Reason;
 
 /// What the mark of a flush or fence says besides.
@@ -103,11 +103,11 @@ fn push_triangle(pen: &mut Pen, class: &str, x: u64, y: u64) {
 }
 
 /// Adds the mark of an event that is missing, around this point.
-pub fn push_missing_mark(pen: &mut Pen, wanted: Wanted, x: u64, y: u64) {
+pub fn push_missing_mark(pen: &mut Pen, wanted: MissingKind, x: u64, y: u64) {
     match wanted {
-        Wanted::Store(_) => push_box(pen, "mend", x, y, 4, 4),
-        Wanted::Fence => push_box(pen, "mend", x, y, 3, 9),
-        Wanted::Flush(_) => push_triangle(pen, "mend", x, y),
+        MissingKind::Store(_) => push_box(pen, "mend", x, y, 4, 4),
+        MissingKind::Fence => push_box(pen, "mend", x, y, 3, 9),
+        MissingKind::Flush(_) => push_triangle(pen, "mend", x, y),
     }
 }
 

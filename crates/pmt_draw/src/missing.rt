@@ -3,7 +3,7 @@ use crate::marks::{push_missing_mark, push_small_missing};
 use crate::page::Page;
 use pmt_model::Format;
 use pmt_pen::Pen;
-use pmt_picture::{Missing, Wanted};
+use pmt_picture::{Missing, MissingKind};
 use pmt_text::line_address;
 
 /// Adds what is missing, from left to right.
@@ -16,8 +16,8 @@ pub fn push_missing(pen: &mut Pen, page: Page<'_>) {
 /// The most letters that stand over a missing event, upright.
 pub fn missing_letters(missing: &Missing, format: Format) -> u64 {
     let address = match missing.wanted {
-        Wanted::Store(_) | Wanted::Fence => 0,
-        Wanted::Flush(line) => {
+        MissingKind::Store(_) | MissingKind::Fence => 0,
+        MissingKind::Flush(line) => {
             let digits = line_address(format, line).checked_ilog2().unwrap_or(0) / 4;
             (digits as u64).saturating_add(4)
         }
@@ -27,17 +27,17 @@ pub fn missing_letters(missing: &Missing, format: Format) -> u64 {
 }
 
 // What is missing.
-fn missing_word(wanted: Wanted) -> &'static str {
+fn missing_word(wanted: MissingKind) -> &'static str {
     match wanted {
-        Wanted::Store(_) => "store here",
-        Wanted::Flush(_) => "clwb here",
-        Wanted::Fence => "sfence here",
+        MissingKind::Store(_) => "store here",
+        MissingKind::Flush(_) => "clwb here",
+        MissingKind::Fence => "sfence here",
     }
 }
 
 // Adds the line that a missing flush is of, and the thread.
 fn push_detail(pen: &mut Pen, page: Page<'_>, missing: &Missing) {
-    if let Wanted::Flush(line) = missing.wanted {
+    if let MissingKind::Flush(line) = missing.wanted {
         pen.fill("@ ", &[line_address(page.picture.format, line)]);
     }
     pen.fill("by T#", &[missing.thread as u64]);
@@ -48,9 +48,9 @@ fn push_group(pen: &mut Pen, page: Page<'_>, missing: &Missing, x: u64) {
     let thread = missing.thread as u64;
     pen.put("<g class='missing' data-missing='");
     pen.put(match missing.wanted {
-        Wanted::Store(_) => "store",
-        Wanted::Flush(_) => "flush",
-        Wanted::Fence => "fence",
+        MissingKind::Store(_) => "store",
+        MissingKind::Flush(_) => "flush",
+        MissingKind::Fence => "fence",
     });
     pen.fill(
         "' data-thread='#' data-after='#' data-x='#'",
@@ -71,16 +71,16 @@ fn push_group(pen: &mut Pen, page: Page<'_>, missing: &Missing, x: u64) {
 // Adds what is to be put in, and where.
 fn push_title(pen: &mut Pen, page: Page<'_>, missing: &Missing) {
     match missing.wanted {
-        Wanted::Store(store) => pen.fill("missing: store #", &[store]),
-        Wanted::Flush(line) => pen.fill(
+        MissingKind::Store(store) => pen.fill("missing: store #", &[store]),
+        MissingKind::Flush(line) => pen.fill(
             "missing: clwb @",
             &[line_address(page.picture.format, line)],
         ),
-        Wanted::Fence => pen.put("missing: sfence"),
+        MissingKind::Fence => pen.put("missing: sfence"),
     }
     pen.fill(" by thread #", &[missing.thread as u64]);
     match (missing.wanted, missing.before) {
-        (Wanted::Store(_), Some(before)) => pen.fill(" before event #", &[before]),
+        (MissingKind::Store(_), Some(before)) => pen.fill(" before event #", &[before]),
         (_, Some(before)) => pen.fill(
             " after event # and before event #",
             &[missing.after, before],
@@ -119,7 +119,7 @@ fn push_words(pen: &mut Pen, page: Page<'_>, missing: &Missing, x: u64) {
 /// Adds the marks of the missing flushes of the line, in its row that begins there.
 pub fn push_missing_flushes(pen: &mut Pen, page: Page<'_>, line: u64, top: u64) {
     for (missing, x) in page.picture.missing.iter().zip(page.layout.missing.iter()) {
-        if missing.wanted == Wanted::Flush(line) {
+        if missing.wanted == MissingKind::Flush(line) {
             push_small_missing(pen, missing.thread, *x, top);
         }
     }

@@ -5,7 +5,7 @@ use crate::missing::push_missing_flushes;
 use crate::page::Page;
 use crate::segments::push_bar;
 use pmt_pen::Pen;
-use pmt_picture::{Role, Row};
+use pmt_picture::{AssertedRole, DrawnRow};
 use pmt_text::line_address;
 
 /// Adds the rows of the lines.
@@ -20,7 +20,7 @@ pub fn push_rows(pen: &mut Pen, page: Page<'_>) {
 }
 
 // Adds the row of a line, which begins there.
-fn push_row(pen: &mut Pen, page: Page<'_>, row: &Row, top: u64, shaded: bool) {
+fn push_row(pen: &mut Pen, page: Page<'_>, row: &DrawnRow, top: u64, shaded: bool) {
     let address = line_address(page.picture.format, row.line);
     pen.fill("<g class='line' data-line='@'>", &[address]);
     if shaded {
@@ -53,7 +53,7 @@ fn push_row(pen: &mut Pen, page: Page<'_>, row: &Row, top: u64, shaded: bool) {
 }
 
 // Adds which bytes of the line the failed assertion speaks of, under the line's name, and what is claimed of them.
-fn push_asserted(pen: &mut Pen, page: Page<'_>, row: &Row, top: u64) {
+fn push_asserted(pen: &mut Pen, page: Page<'_>, row: &DrawnRow, top: u64) {
     let mut y = top.saturating_add(31);
     for claim in &page.picture.asserted {
         let Some(asserted) = claim else {
@@ -67,9 +67,9 @@ fn push_asserted(pen: &mut Pen, page: Page<'_>, row: &Row, top: u64) {
             &[LEFT - 8, y.saturating_sub(8), first, last, LEFT - 14, y],
         );
         pen.put(match asserted.role {
-            Role::Saved => "claimed",
-            Role::First => "first",
-            Role::Second => "second",
+            AssertedRole::Saved => "claimed",
+            AssertedRole::First => "first",
+            AssertedRole::Second => "second",
         });
         if first == last {
             pen.fill(" +#</text>", &[first]);

@@ -4,7 +4,7 @@ use crate::page::Page;
 use crate::shapes::push_shape;
 use crate::words::{push_assertion, push_cause, push_shown};
 use pmt_pen::Pen;
-use pmt_picture::{Bar, Crash};
+use pmt_picture::{Bar, DrawnCrash};
 
 /// The height of a crash's name.
 pub const NAME_LINE: u64 = 16;
@@ -29,7 +29,7 @@ pub fn push_crash(pen: &mut Pen, page: Page<'_>) {
 }
 
 // Opens the crash's group, which names the assertion, the place and the stores, with what is told of the crash.
-fn push_group(pen: &mut Pen, crash: &Crash) {
+fn push_group(pen: &mut Pen, crash: &DrawnCrash) {
     let failure = crash.failure;
     pen.put("<g class='crash-line'");
     if let Some(assertion) = crash.assertion {
@@ -52,7 +52,7 @@ fn push_group(pen: &mut Pen, crash: &Crash) {
 }
 
 // Adds the crash's line, with its name.
-fn push_line(pen: &mut Pen, page: Page<'_>, crash: &Crash, x: u64) {
+fn push_line(pen: &mut Pen, page: Page<'_>, crash: &DrawnCrash, x: u64) {
     let y = page.name;
     pen.fill(
         "<line class='crash' x1='#' y1='#' x2='#' y2='#'/><text class='crash-word' x='#' y='#'>crash: ",
@@ -63,7 +63,7 @@ fn push_line(pen: &mut Pen, page: Page<'_>, crash: &Crash, x: u64) {
 }
 
 // Pales what comes after the crash, and says what it is: the crash did not happen in the trace.
-fn push_veil(pen: &mut Pen, page: Page<'_>, crash: &Crash, x: u64) {
+fn push_veil(pen: &mut Pen, page: Page<'_>, crash: &DrawnCrash, x: u64) {
     let right = page.layout.right;
     let is_last = match page.picture.columns.last() {
         Some(column) => column.number <= crash.failure.place,
@@ -86,7 +86,7 @@ fn push_veil(pen: &mut Pen, page: Page<'_>, crash: &Crash, x: u64) {
 }
 
 // Marks the bar's stores that the crash loses, and where its line crosses the bar, what it loses or keeps.
-fn push_bar_marks(pen: &mut Pen, page: Page<'_>, crash: &Crash, bar: &Bar, top: u64, x: u64) {
+fn push_bar_marks(pen: &mut Pen, page: Page<'_>, crash: &DrawnCrash, bar: &Bar, top: u64, x: u64) {
     let mut is_lost = false;
     for store in &crash.lost {
         if has_store(page, bar, *store) {

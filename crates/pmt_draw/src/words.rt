@@ -2,7 +2,7 @@
 use pmt_asked::Labels;
 use pmt_model::Event;
 use pmt_pen::Pen;
-use pmt_picture::{Assertion, Column, Crash, Picture};
+use pmt_picture::{Assertion, Column, DrawnCrash, Picture};
 use pmt_reasons::{Cause, Reason};
 use pmt_text::write_event;
 
@@ -55,7 +55,7 @@ pub fn push_event_words(pen: &mut Pen, column: &Column, labels: &Labels) {
 }
 
 /// Adds why the store that the crash loses first is not safe, as a sentence; nothing where no cause is known.
-pub fn push_cause(pen: &mut Pen, crash: &Crash) {
+pub fn push_cause(pen: &mut Pen, crash: &DrawnCrash) {
     let lost = crash.failure.lost.store;
     match crash.cause {
         None => {}
@@ -88,7 +88,7 @@ pub fn push_cause(pen: &mut Pen, crash: &Crash) {
 }
 
 /// Adds what the crash shows, as a sentence, and how many stores it loses where they are several.
-pub fn push_shown(pen: &mut Pen, crash: &Crash) {
+pub fn push_shown(pen: &mut Pen, crash: &DrawnCrash) {
     let lost = crash.failure.lost;
     if crash.assertion.is_none() {
         pen.fill("A crash at the end may lose store #", &[lost.store]);
@@ -113,7 +113,7 @@ pub fn push_shown(pen: &mut Pen, crash: &Crash) {
 }
 
 /// Adds how the store that the crash keeps can be kept, as a sentence after another, where no flush of its line comes by then.
-pub fn push_kept(pen: &mut Pen, picture: &Picture, crash: &Crash) {
+pub fn push_kept(pen: &mut Pen, picture: &Picture, crash: &DrawnCrash) {
     let Some(kept) = crash.failure.kept else {
         return;
     };
@@ -138,7 +138,7 @@ pub fn push_kept(pen: &mut Pen, picture: &Picture, crash: &Crash) {
 }
 
 /// Adds what the crash violates, or what it loses.
-pub fn push_assertion(pen: &mut Pen, crash: &Crash) {
+pub fn push_assertion(pen: &mut Pen, crash: &DrawnCrash) {
     match crash.assertion {
         Some(Assertion { number, ordered }) => {
             pen.put(if ordered {

@@ -1,6 +1,6 @@
 -- The page: the parts of its template, with a block between each two.
 use Rattle.std.specs.Prelude.{ℕ, List, ◌++◌}
-use Rattle.pmt_page.specs.declared.page.Blocks.{Blocks}
+use Rattle.pmt_page.specs.declared.page.PageBlocks.{PageBlocks}
 use Rattle.pmt_page.specs.declared.parts.TheConstants.{BEFORE_PICTURE, BEFORE_TEXT, BEFORE_ABOUT, BEFORE_COLUMNS, BEFORE_EXPLAINED, BEFORE_LABELS, BEFORE_SOURCES, AFTER_SOURCES}
 use Rattle.pmt_page.specs.declared.template.Template.{Template}
 use Rattle.pmt_page.specs.Escapes.{embedded, html}
@@ -17,22 +17,22 @@ pub record Parts : Type 0 where
   pub after_sources : List ℕ
 
 -- What stands there until the script is ready, and stays where none runs.
-abbrev pub still : Parts → Blocks → List ℕ
+abbrev pub still : Parts → PageBlocks → List ℕ
 still p b = p.before_picture ++ b.picture.now ++ p.before_text ++ html b.text.now
 
 -- The data of the trace.
-abbrev pub trace_data : Parts → Blocks → List ℕ
+abbrev pub trace_data : Parts → PageBlocks → List ℕ
 trace_data p b = p.before_about ++ embedded b.about.now ++ p.before_columns ++ embedded b.columns.now
 
 -- Lines of source files, and the script.
-abbrev pub source_data : Parts → Blocks → List ℕ
+abbrev pub source_data : Parts → PageBlocks → List ℕ
 source_data p b = p.before_sources ++ embedded b.sources.now ++ p.after_sources
 
 -- What is told of it, and the script.
-abbrev pub told_data : Parts → Blocks → List ℕ
+abbrev pub told_data : Parts → PageBlocks → List ℕ
 told_data p b = p.before_explained ++ embedded b.explained.now ++ p.before_labels ++ embedded b.labels.now ++ source_data p b
 
-unfoldable pub filled : Parts → Blocks → List ℕ
+unfoldable pub filled : Parts → PageBlocks → List ℕ
 filled p b = still p b ++ trace_data p b ++ told_data p b
 
 abbrev pub parts_of : Template → Parts
@@ -60,5 +60,5 @@ parts = record {
   after_sources = AFTER_SOURCES.now;
 }
 
-unfoldable pub page : Blocks → List ℕ
+unfoldable pub page : PageBlocks → List ℕ
 page b = filled parts b

@@ -5,7 +5,7 @@ ghost use Rattle.pmt_page.specs.Columns.{columns, columns_with as written, event
 use crate::dropping::push_dropped;
 use crate::events::{NumberColumn, numbers_of, push_ops, push_values};
 use crate::fields::{push_safe, push_steps, push_verdicts};
-use crate::known::{Found, Kept};
+use crate::known::{EventFindings, Kept};
 use pmt_model::{Event, OutOfMemory, Trace};
 use std::alloc::Global;
 
@@ -26,7 +26,7 @@ pub struct Columns {
 pub fn columns_of(
     alloc: Global,
     trace: &Trace,
-    found: Found<'_>,
+    found: EventFindings<'_>,
     most: usize,
 ) -> Result<Columns, OutOfMemory>
     ensures text { IfOk result (λ c. c.text.items ≡ columns c.kept trace.now.events found.entry.safe.now found.entry.verdicts.now found.entry.dropped.now) }
@@ -77,7 +77,7 @@ fn kept_columns(
     alloc: Global,
     kept: Kept,
     events: &[Event],
-    found: Found<'_>,
+    found: EventFindings<'_>,
 ) -> Result<Vec<u8>, OutOfMemory>
     ensures { IfOk result (λ text. text.items ≡ columns kept events.now found.entry.safe.now found.entry.verdicts.now found.entry.dropped.now) }
 {
@@ -90,7 +90,7 @@ fn columns_with(
     has_ranges: bool,
     has_values: bool,
     events: &[Event],
-    found: Found<'_>,
+    found: EventFindings<'_>,
 ) -> Result<Vec<u8>, OutOfMemory>
     ensures { IfOk result (λ text. text.items ≡ written has_ranges has_values events.now found.entry.safe.now found.entry.verdicts.now found.entry.dropped.now) }
 {
@@ -202,7 +202,7 @@ fn push_found(
     alloc: Global,
     text: &mut Vec<u8>,
     events: &[Event],
-    found: Found<'_>,
+    found: EventFindings<'_>,
 ) -> Result<(), OutOfMemory>
     ensures { OnOk result (text.new.items ≡ text.old.items ++ found_columns events.now found.entry.safe.now found.entry.verdicts.now found.entry.dropped.now) }
 {

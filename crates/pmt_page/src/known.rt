@@ -13,7 +13,7 @@ pub struct SafePlace {
 
 /// What is found of the events of a trace.
 #[derive(Clone, Copy)]
-pub struct Found<'a> {
+pub struct EventFindings<'a> {
     /// Of each store, in event order, when it is safe.
     pub safe: &'a [SafePlace],
     /// Of each assertion, in event order, whether it passes.

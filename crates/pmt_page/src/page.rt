@@ -10,7 +10,7 @@ use std::alloc::Global;
 
 /// What a page shows.
 #[derive(Clone, Copy)]
-pub struct Blocks<'a> {
+pub struct PageBlocks<'a> {
     /// The first picture, as an element of SVG, which stands there until the script is ready,
     pub picture: &'a str,
     /// and the text of `explain` for people.
@@ -32,14 +32,18 @@ pub struct Blocks<'a> {
 ///
 /// # Errors
 /// Where memory was refused.
-pub fn page_text(alloc: Global, blocks: Blocks<'_>) -> Result<Vec<u8>, OutOfMemory>
+pub fn page_text(alloc: Global, blocks: PageBlocks<'_>) -> Result<Vec<u8>, OutOfMemory>
     ensures { IfOk result (λ text. text.items ≡ page blocks.entry) }
 {
     filled(alloc, own_template(), blocks)
 }
 
 // A template with these blocks between its parts.
-fn filled(alloc: Global, template: Template<'_>, blocks: Blocks<'_>) -> Result<Vec<u8>, OutOfMemory>
+fn filled(
+    alloc: Global,
+    template: Template<'_>,
+    blocks: PageBlocks<'_>,
+) -> Result<Vec<u8>, OutOfMemory>
     ensures { IfOk result (λ text. text.items ≡ filled_with (parts_of template.entry) blocks.entry) }
 {
     let mut text = Vec::new(alloc);
@@ -53,7 +57,7 @@ fn filled(alloc: Global, template: Template<'_>, blocks: Blocks<'_>) -> Result<V
 fn push_still(
     text: &mut Vec<u8>,
     template: Template<'_>,
-    blocks: Blocks<'_>,
+    blocks: PageBlocks<'_>,
 ) -> Result<(), OutOfMemory>
     ensures { OnOk result (text.new.items ≡ text.old.items ++ still (parts_of template.entry) blocks.entry) }
 {
@@ -67,7 +71,7 @@ fn push_still(
 fn push_trace_data(
     text: &mut Vec<u8>,
     template: Template<'_>,
-    blocks: Blocks<'_>,
+    blocks: PageBlocks<'_>,
 ) -> Result<(), OutOfMemory>
     ensures { OnOk result (text.new.items ≡ text.old.items ++ trace_data (parts_of template.entry) blocks.entry) }
 {
@@ -81,7 +85,7 @@ fn push_trace_data(
 fn push_told_data(
     text: &mut Vec<u8>,
     template: Template<'_>,
-    blocks: Blocks<'_>,
+    blocks: PageBlocks<'_>,
 ) -> Result<(), OutOfMemory>
     ensures { OnOk result (text.new.items ≡ text.old.items ++ told_data (parts_of template.entry) blocks.entry) }
 {
@@ -96,7 +100,7 @@ fn push_told_data(
 fn push_source_data(
     text: &mut Vec<u8>,
     template: Template<'_>,
-    blocks: Blocks<'_>,
+    blocks: PageBlocks<'_>,
 ) -> Result<(), OutOfMemory>
     ensures { OnOk result (text.new.items ≡ text.old.items ++ source_data (parts_of template.entry) blocks.entry) }
 {

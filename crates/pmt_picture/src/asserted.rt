@@ -3,7 +3,7 @@ use pmt_model::{Format, Op, Range};
 
 /// What the assertion claims of the bytes.
 #[derive(Clone, Copy)]
-pub enum Role {
+pub enum AssertedRole {
     /// No crash loses them.
     Saved,
     /// No crash keeps the second bytes without them.
@@ -20,7 +20,7 @@ pub struct Asserted {
     /// The address of the last byte.
     pub last: u64,
     /// What is claimed of them.
-    pub role: Role,
+    pub role: AssertedRole,
 }
 
 impl Asserted {
@@ -50,10 +50,10 @@ impl Asserted {
 /// The bytes of each range of the assertion; none of another event.
 pub fn asserted_of(op: Op) -> [Option<Asserted>; 2] {
     match op {
-        Op::IsPersist(range) => [Some(bytes_of(range, Role::Saved)), None],
+        Op::IsPersist(range) => [Some(bytes_of(range, AssertedRole::Saved)), None],
         Op::IsOrderedBefore(first, second) => [
-            Some(bytes_of(first, Role::First)),
-            Some(bytes_of(second, Role::Second)),
+            Some(bytes_of(first, AssertedRole::First)),
+            Some(bytes_of(second, AssertedRole::Second)),
         ],
         Op::Store(_) | Op::Clwb(_) | Op::ClflushOpt(_) | Op::Clflush(_) | Op::Sfence | Op::Mfence =>
             [None, None],
@@ -61,7 +61,7 @@ pub fn asserted_of(op: Op) -> [Option<Asserted>; 2] {
 }
 
 // The bytes of the range.
-fn bytes_of(range: Range, role: Role) -> Asserted {
+fn bytes_of(range: Range, role: AssertedRole) -> Asserted {
     let len = range.len();
     let first = range.addr().get();
     Asserted {

@@ -56,7 +56,7 @@ impl Bar {
 
 /// A line, and its stores and flushes that are drawn.
 #[derive(Drop)]
-pub struct Row {
+pub struct DrawnRow {
     /// The number of the line.
     pub line: u64,
     /// The bars, by rising store.
@@ -106,9 +106,9 @@ impl Drawn<'_> {
 ///
 /// # Errors
 /// Where memory was refused.
-pub fn row_of(alloc: Global, drawn: Drawn<'_>, line: u64) -> Result<Row, OutOfMemory> {
+pub fn row_of(alloc: Global, drawn: Drawn<'_>, line: u64) -> Result<DrawnRow, OutOfMemory> {
     let all = flushes_of(alloc, drawn, line)?;
-    let mut row = Row {
+    let mut row = DrawnRow {
         line,
         bars: Vec::new(alloc),
         flushes: Vec::new(alloc),
@@ -164,7 +164,7 @@ fn bar_of(drawn: Drawn<'_>, flushes: &[Flush], line: u64, store: u64) -> Bar {
 }
 
 // Adds the bar: to the last one, where they share their states, or else in the first lane that is free.
-fn push_bar(row: &mut Row, crash: u64, bar: Bar) -> Result<(), OutOfMemory> {
+fn push_bar(row: &mut DrawnRow, crash: u64, bar: Bar) -> Result<(), OutOfMemory> {
     if joins(row.bars.as_mut_slice(), crash, &bar) {
         return Ok(());
     }

@@ -1,5 +1,5 @@
 //! The crash that is drawn.
-use crate::known::Known;
+use crate::known::KnownTrace;
 use crate::ops::line_of_op;
 use pmt_explain::{LostGroup, cause, failure, lost_in_range};
 use pmt_model::{Op, OutOfMemory, Trace};
@@ -17,7 +17,7 @@ pub struct Assertion {
 
 /// A crash that violates an assertion, or one at the trace's end that loses stores for good.
 #[derive(Drop)]
-pub struct Crash {
+pub struct DrawnCrash {
     /// The assertion; none of a crash at the end.
     pub assertion: Option<Assertion>,
     /// Where the crash comes, and what it keeps and loses first.
@@ -37,7 +37,7 @@ pub(crate) fn crash_of(
     alloc: Global,
     trace: &Trace,
     number: u64,
-) -> Result<Option<Crash>, OutOfMemory> {
+) -> Result<Option<DrawnCrash>, OutOfMemory> {
     let Some(failure) = failure(alloc, trace, number)? else {
         return Ok(None);
     };
@@ -51,7 +51,7 @@ pub(crate) fn crash_of(
         Op::Store(_) | Op::Clwb(_) | Op::ClflushOpt(_) | Op::Clflush(_) | Op::Sfence | Op::Mfence =>
             return Ok(None),
     };
-    Ok(Some(Crash {
+    Ok(Some(DrawnCrash {
         assertion: Some(Assertion { number, ordered }),
         failure,
         cause: cause(trace, failure.lost.store, failure.place),
@@ -65,9 +65,9 @@ pub(crate) fn crash_of(
 /// Where memory was refused.
 pub(crate) fn crash_at_end(
     alloc: Global,
-    known: Known<'_>,
+    known: KnownTrace<'_>,
     group: LostGroup,
-) -> Result<Crash, OutOfMemory> {
+) -> Result<DrawnCrash, OutOfMemory> {
     let format = known.trace.format();
     let mut lost = Vec::new(alloc);
     for number in known.never {
@@ -77,7 +77,7 @@ pub(crate) fn crash_at_end(
             }
         }
     }
-    Ok(Crash {
+    Ok(DrawnCrash {
         assertion: None,
         failure: Failure {
             place: known.trace.len() as u64,

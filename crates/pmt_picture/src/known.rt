@@ -5,7 +5,7 @@ use pmt_reasons::Reason;
 
 /// What is known of a trace.
 #[derive(Clone, Copy)]
-pub struct Known<'a> {
+pub struct KnownTrace<'a> {
     /// The trace.
     pub trace: &'a Trace,
     /// How many lines are stored or flushed in it.
@@ -18,7 +18,7 @@ pub struct Known<'a> {
     pub dropped: &'a [Dropped],
 }
 
-impl Known<'_> {
+impl KnownTrace<'_> {
     /// Why the event with this number is dropped, if it is.
     pub fn reason(&self, number: u64) -> Option<Reason> {
         let index = self

@@ -1,8 +1,8 @@
 //! What is missing where a crash loses stores: the events that mend that, and where they are put in.
 use crate::asserted::Asserted;
-use crate::crash::Crash;
+use crate::crash::DrawnCrash;
 use crate::ops::{line_of_op, next_fence, waits_for_fence};
-use crate::subject::Subject;
+use crate::subject::DrawnSubject;
 use pmt_model::{Event, Op, OutOfMemory, Trace};
 use pmt_reasons::Cause;
 use std::alloc::Global;
@@ -12,7 +12,7 @@ const NEAR: u64 = 10_000;
 
 /// What kind of event is missing.
 #[derive(Clone, Copy, PartialEq, Eq)]
-pub enum Wanted {
+pub enum MissingKind {
     /// The store with this number, which comes too late.
     Store(u64),
     /// A flush of the line of this number.
@@ -25,7 +25,7 @@ pub enum Wanted {
 #[derive(Clone, Copy)]
 pub struct Missing {
     /// What it is.
-    pub wanted: Wanted,
+    pub wanted: MissingKind,
     /// The thread that makes it.
     pub thread: u8,
     /// The event after which it is put in; 0 for the start.
@@ -42,8 +42,8 @@ pub struct Missing {
 pub(crate) fn missing_of(
     alloc: Global,
     trace: &Trace,
-    subject: Subject,
-    crash: Option<&Crash>,
+    subject: DrawnSubject,
+    crash: Option<&DrawnCrash>,
     claimed: Option<Asserted>,
 ) -> Result<Vec<Missing>, OutOfMemory> {
     let Some(crash) = crash else {
@@ -51,7 +51,7 @@ pub(crate) fn missing_of(
     };
     let failure = crash.failure;
     let (store, before) = match subject {
-        Subject::Lost(group) => (group.last, None),
+        DrawnSubject::Lost(group) => (group.last, None),
         _ => (failure.lost.store, Some(failure.place)),
     };
     match crash.cause {
@@ -77,7 +77,7 @@ pub(crate) fn missing_of(
 // A fence of the thread between these events.
 fn fence(thread: u8, after: u64, before: Option<u64>) -> Missing {
     Missing {
-        wanted: Wanted::Fence,
+        wanted: MissingKind::Fence,
         thread,
         after,
         before,
@@ -89,7 +89,7 @@ fn fence(thread: u8, after: u64, before: Option<u64>) -> Missing {
 fn unflushed(
     alloc: Global,
     trace: &Trace,
-    crash: &Crash,
+    crash: &DrawnCrash,
     store: u64,
     before: Option<u64>,
 ) -> Result<Vec<Missing>, OutOfMemory> {
@@ -102,7 +102,7 @@ fn unflushed(
     let standing = next_fence(trace, thread, store, near.saturating_sub(1));
     let after = last_lost(trace, crash, line, store, standing.unwrap_or(end));
     missing.push(Missing {
-        wanted: Wanted::Flush(line),
+        wanted: MissingKind::Flush(line),
         thread,
         after,
         before: if standing.is_some() { standing } else { before },
@@ -114,7 +114,7 @@ fn unflushed(
 }
 
 // The last store to the line that the crash loses and that comes before that event; the first one of these is event `first`.
-fn last_lost(trace: &Trace, crash: &Crash, line: u64, first: u64, end: u64) -> u64 {
+fn last_lost(trace: &Trace, crash: &DrawnCrash, line: u64, first: u64, end: u64) -> u64 {
     let mut last = first;
     for store in &crash.lost {
         if last < *store && *store < end {
@@ -132,7 +132,7 @@ fn last_lost(trace: &Trace, crash: &Crash, line: u64, first: u64, end: u64) -> u
 fn later(
     alloc: Global,
     trace: &Trace,
-    crash: &Crash,
+    crash: &DrawnCrash,
     store: u64,
 ) -> Result<Vec<Missing>, OutOfMemory> {
     let mut missing = Vec::new(alloc);
@@ -144,7 +144,7 @@ fn later(
         Some(crash.failure.place),
     );
     missing.push(Missing {
-        wanted: Wanted::Store(store),
+        wanted: MissingKind::Store(store),
         thread,
         after,
         before,
@@ -159,7 +159,7 @@ fn later(
     };
     if !is_same {
         missing.push(Missing {
-            wanted: Wanted::Flush(line),
+            wanted: MissingKind::Flush(line),
             thread,
             after,
             before,

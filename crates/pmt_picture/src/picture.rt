@@ -2,14 +2,14 @@
 ghost use Rattle.std.specs.Prelude.{IfOk};
 ghost use Rattle.pmt_picture.specs.Columns.{AreColumns};
 
-use crate::about::About;
+use crate::about::PictureContent;
 use crate::asserted::{Asserted, asserted_of};
-use crate::bars::{Drawn, Row, row_of};
-use crate::crash::Crash;
-use crate::known::Known;
+use crate::bars::{Drawn, DrawnRow, row_of};
+use crate::crash::DrawnCrash;
+use crate::known::KnownTrace;
 use crate::missing::{Missing, missing_of};
 use crate::ops::{line_of_op, next_fence, waits_for_fence};
-use crate::subject::Subject;
+use crate::subject::DrawnSubject;
 use pmt_explain::safe_places;
 use pmt_model::{Event, Format, OutOfMemory, Trace};
 use pmt_reasons::Reason;
@@ -40,17 +40,17 @@ pub struct Picture {
     /// How many lines are stored or flushed in the trace.
     pub lines: u64,
     /// What the picture is about.
-    pub subject: Subject,
+    pub subject: DrawnSubject,
     /// How many of the events that tell of the subject have no room.
     pub cut: u64,
     /// The events that are drawn, by rising number.
     pub columns: Vec<Column>,
     /// The lines that these touch, by rising address.
-    pub rows: Vec<Row>,
+    pub rows: Vec<DrawnRow>,
     /// The bytes of the failed assertion that the picture is about.
     pub asserted: [Option<Asserted>; 2],
     /// The crash of the subject, if it has one.
-    pub crash: Option<Crash>,
+    pub crash: Option<DrawnCrash>,
     /// What is missing where the crash loses stores, in the order in which it is put in.
     pub missing: Vec<Missing>,
 }
@@ -72,10 +72,14 @@ impl Picture {
 ///
 /// # Errors
 /// Where memory was refused.
-pub fn picture_of(alloc: Global, known: Known<'_>, about: About) -> Result<Picture, OutOfMemory>
+pub fn picture_of(
+    alloc: Global,
+    known: KnownTrace<'_>,
+    about: PictureContent,
+) -> Result<Picture, OutOfMemory>
     ensures { IfOk result (λ p. AreColumns known.entry.trace.now about.told.numbers.items p.columns.items) }
 {
-    let About {
+    let PictureContent {
         subject,
         crash,
         told,
@@ -107,7 +111,7 @@ pub fn picture_of(alloc: Global, known: Known<'_>, about: About) -> Result<Pictu
 }
 
 // The bytes of the assertion that the crash violates.
-fn asserted_in(trace: &Trace, crash: Option<&Crash>) -> [Option<Asserted>; 2] {
+fn asserted_in(trace: &Trace, crash: Option<&DrawnCrash>) -> [Option<Asserted>; 2] {
     if let Some(crash) = crash {
         if let Some(assertion) = crash.assertion {
             if let Some(event) = trace.get(assertion.number) {
@@ -119,7 +123,11 @@ fn asserted_in(trace: &Trace, crash: Option<&Crash>) -> [Option<Asserted>; 2] {
 }
 
 // The events with these numbers, which rise.
-fn columns_of(alloc: Global, known: Known<'_>, numbers: &[u64]) -> Result<Vec<Column>, OutOfMemory>
+fn columns_of(
+    alloc: Global,
+    known: KnownTrace<'_>,
+    numbers: &[u64],
+) -> Result<Vec<Column>, OutOfMemory>
     ensures { IfOk result (λ columns. AreColumns known.entry.trace.now numbers.now columns.items) }
 {
     let last = numbers.last().copied().unwrap_or(0);
@@ -176,8 +184,8 @@ fn rows_of(
     trace: &Trace,
     columns: &[u64],
     lines: &[u64],
-    crash: Option<&Crash>,
-) -> Result<Vec<Row>, OutOfMemory> {
+    crash: Option<&DrawnCrash>,
+) -> Result<Vec<DrawnRow>, OutOfMemory> {
     let safe = safe_places(alloc, trace)?;
     let drawn = Drawn {
         trace,

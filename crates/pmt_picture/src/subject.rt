@@ -1,10 +1,10 @@
 //! What a picture is about.
-use crate::known::Known;
+use crate::known::KnownTrace;
 use pmt_explain::LostGroup;
 
 /// What a picture is about.
 #[derive(Clone, Copy)]
-pub enum Subject {
+pub enum DrawnSubject {
     /// The assertion with this number, which fails.
     Failure(u64),
     /// Stores to one line that are never persisted.
@@ -15,16 +15,16 @@ pub enum Subject {
     Around(u64),
 }
 
-impl Subject {
+impl DrawnSubject {
     /// Whether it is a finding, of which certain events tell.
     pub fn is_finding(self) -> bool {
-        !matches!(self, Subject::Around(_))
+        !matches!(self, DrawnSubject::Around(_))
     }
 }
 
 /// Why nothing is drawn of what is asked for.
 #[derive(Clone, Copy)]
-pub enum Refusal {
+pub enum NotDrawn {
     /// The trace ends before the event with this number.
     PastEnd(u64),
     /// The event with this number is no assertion.
@@ -34,20 +34,20 @@ pub enum Refusal {
 }
 
 /// Why nothing is drawn, where the subject is not of this trace.
-pub fn refusal_of(known: Known<'_>, subject: Subject) -> Option<Refusal> {
+pub fn refusal_of(known: KnownTrace<'_>, subject: DrawnSubject) -> Option<NotDrawn> {
     let number = match subject {
-        Subject::Failure(number) | Subject::Around(number) => number,
-        Subject::Lost(_) | Subject::Late(_) => return None,
+        DrawnSubject::Failure(number) | DrawnSubject::Around(number) => number,
+        DrawnSubject::Lost(_) | DrawnSubject::Late(_) => return None,
     };
     if number > known.trace.len() as u64 {
-        return Some(Refusal::PastEnd(number));
+        return Some(NotDrawn::PastEnd(number));
     }
-    if let Subject::Around(_) = subject {
+    if let DrawnSubject::Around(_) = subject {
         return None;
     }
     match known.pass(number) {
-        None => Some(Refusal::NoAssertion(number)),
-        Some(true) => Some(Refusal::Passes(number)),
+        None => Some(NotDrawn::NoAssertion(number)),
+        Some(true) => Some(NotDrawn::Passes(number)),
         Some(false) => None,
     }
 }

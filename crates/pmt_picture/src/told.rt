@@ -1,6 +1,6 @@
 //! The events that a picture has: of a failed assertion, and of stores that are lost or late, those of their slices, as far as there is room.
-use crate::crash::Crash;
-use crate::subject::Subject;
+use crate::crash::DrawnCrash;
+use crate::subject::DrawnSubject;
 use pmt_model::{OutOfMemory, Trace};
 use pmt_slices::{slice_of, store_sliced, story_of};
 use std::alloc::Global;
@@ -10,7 +10,7 @@ const MOST_TOLD: usize = 24;
 
 /// The events that a picture has.
 #[derive(Drop)]
-pub struct Told {
+pub struct DrawnEvents {
     /// Their numbers, rising.
     pub numbers: Vec<u64>,
     /// How many there would be, if there were room for all.
@@ -24,19 +24,19 @@ pub struct Told {
 pub(crate) fn told_of(
     alloc: Global,
     trace: &Trace,
-    subject: Subject,
-    crash: Option<&Crash>,
-) -> Result<Told, OutOfMemory> {
+    subject: DrawnSubject,
+    crash: Option<&DrawnCrash>,
+) -> Result<DrawnEvents, OutOfMemory> {
     match subject {
-        Subject::Failure(number) => failure_told(alloc, trace, number, crash),
-        Subject::Lost(_) => lost_told(alloc, trace, crash),
-        Subject::Late(store) => stores_told(alloc, trace, &[store]),
-        Subject::Around(number) => told_around(alloc, trace, number),
+        DrawnSubject::Failure(number) => failure_told(alloc, trace, number, crash),
+        DrawnSubject::Lost(_) => lost_told(alloc, trace, crash),
+        DrawnSubject::Late(store) => stores_told(alloc, trace, &[store]),
+        DrawnSubject::Around(number) => told_around(alloc, trace, number),
     }
 }
 
 // The events around this one, as many as have room.
-fn told_around(alloc: Global, trace: &Trace, number: u64) -> Result<Told, OutOfMemory> {
+fn told_around(alloc: Global, trace: &Trace, number: u64) -> Result<DrawnEvents, OutOfMemory> {
     let events = trace.len() as u64;
     let most = MOST_TOLD as u64;
     let before = number
@@ -47,7 +47,7 @@ fn told_around(alloc: Global, trace: &Trace, number: u64) -> Result<Told, OutOfM
         numbers.push(index.saturating_add(1))?;
     }
     let all = numbers.len() as u64;
-    Ok(Told { numbers, all })
+    Ok(DrawnEvents { numbers, all })
 }
 
 // The slice of the assertion with this number, which the crash violates.
@@ -55,13 +55,13 @@ fn failure_told(
     alloc: Global,
     trace: &Trace,
     number: u64,
-    crash: Option<&Crash>,
-) -> Result<Told, OutOfMemory> {
+    crash: Option<&DrawnCrash>,
+) -> Result<DrawnEvents, OutOfMemory> {
     let Some(slice) = slice_of(alloc, trace, number)? else {
         return stores_told(alloc, trace, &[]);
     };
     let needed = needed_of(alloc, trace, number, crash)?;
-    Ok(Told {
+    Ok(DrawnEvents {
         numbers: shown_of(alloc, slice.numbers(), needed.as_slice())?,
         all: slice.len() as u64,
     })
@@ -72,7 +72,7 @@ fn needed_of(
     alloc: Global,
     trace: &Trace,
     number: u64,
-    crash: Option<&Crash>,
+    crash: Option<&DrawnCrash>,
 ) -> Result<Vec<u64>, OutOfMemory> {
     let mut needed = Vec::new(alloc);
     let Some(crash) = crash else {
@@ -104,7 +104,11 @@ fn shown_of(alloc: Global, numbers: &[u64], needed: &[u64]) -> Result<Vec<u64>, 
 }
 
 // The slices of the stores that the crash loses.
-fn lost_told(alloc: Global, trace: &Trace, crash: Option<&Crash>) -> Result<Told, OutOfMemory> {
+fn lost_told(
+    alloc: Global,
+    trace: &Trace,
+    crash: Option<&DrawnCrash>,
+) -> Result<DrawnEvents, OutOfMemory> {
     match crash {
         Some(crash) => stores_told(alloc, trace, crash.lost.as_slice()),
         None => stores_told(alloc, trace, &[]),
@@ -112,7 +116,7 @@ fn lost_told(alloc: Global, trace: &Trace, crash: Option<&Crash>) -> Result<Told
 }
 
 // The slices of these stores, which are lost or late: of the first ones, as far as a picture has room.
-fn stores_told(alloc: Global, trace: &Trace, stores: &[u64]) -> Result<Told, OutOfMemory> {
+fn stores_told(alloc: Global, trace: &Trace, stores: &[u64]) -> Result<DrawnEvents, OutOfMemory> {
     let mut numbers = Vec::new(alloc);
     for store in stores {
         let Some(slice) = store_sliced(alloc, trace, *store)? else {
@@ -125,7 +129,7 @@ fn stores_told(alloc: Global, trace: &Trace, stores: &[u64]) -> Result<Told, Out
         numbers = joined;
     }
     let all = numbers.len() as u64;
-    Ok(Told { numbers, all })
+    Ok(DrawnEvents { numbers, all })
 }
 
 // The numbers of both lists, rising and each once.

@@ -18,7 +18,7 @@ use Rattle.pmt_reasons.specs.declared.failure.Failure.{Failure}
 use Rattle.pmt_reasons.specs.Causes.{IsFirstFenceAt}
 use Rattle.pmt_reasons.specs.Failures.{IsLastIn, IsFailureOf, IsFailureAt}
 use Rattle.pmt_safety.specs.Safety.{IsSafeFrom}
-use Rattle.pmt_slices.specs.declared.story.Part.TheVariants.{Kept, Saves, Flush, Cover, Fence}
+use Rattle.pmt_slices.specs.declared.story.StoryPart.TheVariants.{Kept, Saves, Flush, Cover, Fence}
 use Rattle.pmt_slices.specs.declared.story.Story.{Story}
 use Rattle.pmt_slices.specs.Slices.{IsFirstFlush, IsFirstFlushBy, Tells, Itself, IsRangeOf, IsSlice, TheAssertion as TheAsserted, OfStore, IsChosen, IsCompletion, OfFence, OfClflush, IsComing, Chooses, IsOfStore, TheStore, TheFlush, TheCompletion, TheCover, TheFence, IsOfFailure}
 use Rattle.pmt_slices.specs.Stories.{IsPart, IsTold, IsInStory, TheAssertion, TheKept, OfLost, IsStory, StoryTells}

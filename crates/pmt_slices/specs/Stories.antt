@@ -11,13 +11,13 @@ use Rattle.pmt_reasons.specs.declared.failure.Failure.{Failure}
 use Rattle.pmt_reasons.specs.Failures.{IsFailureAt}
 use Rattle.pmt_reasons.specs.Causes.{IsFirstFenceAt}
 use Rattle.pmt_safety.specs.Safety.{IsSafeFrom}
-use Rattle.pmt_slices.specs.declared.story.Part.{Part}
-use Rattle.pmt_slices.specs.declared.story.Part.TheVariants.{Assertion, Lost, Kept, Saves, Flush, Cover, Fence}
+use Rattle.pmt_slices.specs.declared.story.StoryPart.{StoryPart}
+use Rattle.pmt_slices.specs.declared.story.StoryPart.TheVariants.{Assertion, Lost, Kept, Saves, Flush, Cover, Fence}
 use Rattle.pmt_slices.specs.declared.story.Story.{Story}
 use Rattle.pmt_slices.specs.Slices.{IsFirstFlush, IsFirstFlushBy, Tells, IsSlice, IsComing}
 
 -- Event k is this part of the story of the assertion at n, whose crash loses a store to line l.
-abbrev pub IsPart : Recording → ℕ → ℕ → Failure → Part → ℕ → Type 0
+abbrev pub IsPart : Recording → ℕ → ℕ → Failure → StoryPart → ℕ → Type 0
 IsPart T n l f Assertion k = k ≡ n
 IsPart T n l f Lost k = k ≡ f.lost.store
 IsPart T n l f Kept k = (y : ByteStore) × (f.kept ≡ Some y) × (k ≡ y.store)
@@ -32,7 +32,7 @@ IsFirstOf P x [] = ⊥
 IsFirstOf P x (y ∷ ys) = ((x ≡ y) × P y) ⊎ ((¬ P y) × IsFirstOf P x ys)
 
 -- What event k is told to be: the first of these that it is.
-abbrev pub IsTold : Recording → ℕ → ℕ → Failure → Part → ℕ → Type 0
+abbrev pub IsTold : Recording → ℕ → ℕ → Failure → StoryPart → ℕ → Type 0
 IsTold T n l f part k = IsFirstOf (λ p. IsPart T n l f p k) part (Assertion ∷ Lost ∷ Kept ∷ Saves ∷ Flush ∷ Cover ∷ Fence ∷ [])
 
 -- Event k is the assertion at n, the store that its crash keeps, or tells of the store to line l that its crash loses.

@@ -19,4 +19,4 @@ pub use crate::cutting::{Slice, sliced};
 pub use crate::slicing::slice_of;
 pub use crate::store_slicing::store_sliced;
 pub use crate::store_story::{StorePart, StoreStory, store_story_of};
-pub use crate::story::{Part, Story, story_of};
+pub use crate::story::{Story, StoryPart, story_of};

@@ -20,7 +20,7 @@ use std::alloc::Global;
 
 /// What an event is in a story; of several, the one that stands first here.
 #[derive(Clone, Copy)]
-pub enum Part {
+pub enum StoryPart {
     /// The assertion that fails.
     Assertion,
     /// The store that its crash loses.
@@ -57,23 +57,23 @@ impl Story {
     }
 
     /// What the event of the story with this number is.
-    pub fn part(&self, number: u64) -> Part
+    pub fn part(&self, number: u64) -> StoryPart
         ensures { (T : Recording) (n : ℕ) (f : Failure) → (is : IsStory T n f self.now) → Has self.now.numbers number → IsTold T n is.lost_one.line f result number }
     {
         if number == self.assertion {
-            Part::Assertion
+            StoryPart::Assertion
         } else if number == self.lost {
-            Part::Lost
+            StoryPart::Lost
         } else if self.kept == Some(number) {
-            Part::Kept
+            StoryPart::Kept
         } else if number == self.coming.safe {
-            Part::Saves
+            StoryPart::Saves
         } else if number == self.coming.flush {
-            Part::Flush
+            StoryPart::Flush
         } else if self.coming.safe <= self.assertion && number == self.coming.cover {
-            Part::Cover
+            StoryPart::Cover
         } else {
-            Part::Fence
+            StoryPart::Fence
         }
     }
 }
