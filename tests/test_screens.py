@@ -105,6 +105,16 @@ class Screens(Checks):
         whole = run(self.program, "--labels", "names", "--limit", "all", "trace", cwd=self.folder).stdout.decode()
         self.expect("all of them", all(f"save{line}" in whole for line in range(0, 24, 2)), whole)
 
+    def test_volatile(self):
+        """Counters in the lines of what is saved: one question, and the command that leaves them out; no slip of a field that is saved else."""
+        screen = self.screen_of(counted_hits(False))
+        self.expect_screen("counters", screen, LINES)
+        self.expect("counters apart", screen.volatile == {"lru.c:7 touch", "lru.c:8 touch"} and not screen.weighty, screen.text)
+        self.expect_runs(next_of(screen), self.folder, 0)
+        screen = self.screen_of(counted_hits(True))
+        self.expect_screen("a field saved by put", screen, LINES)
+        self.expect("a slip", not screen.volatile and screen.weighty, screen.text)
+
     def test_chosen(self):
         """With --only KIND the text has a row for each thing of that kind, or counts it."""
         choose = random.Random(53)
@@ -135,6 +145,26 @@ class Screens(Checks):
                 self.expect(f"failure {failing} of trace {number}", all(line in whole for line in wanted), f"{wanted} in {text}")
                 told += 1
         self.expect("many fail", told > 20, told)
+
+
+def counted_hits(is_saved):
+    """Events and labels of rounds that save a slot, and count and link another one, which `put` may save too."""
+    events, labels = [], {}
+
+    def add(event, label):
+        events.append(event)
+        labels[len(events)] = label
+
+    for at in range(60):
+        # each slot is saved at first, and then seldom; most rounds save a line of their own
+        slot, other = 0x1000 + at % 8 * 64 if at < 8 or at % 10 == 0 else 0x9000, 0x1000 + (at * 5 + 3) % 8 * 64
+        for field in range(3 if is_saved else 1):
+            add(("store", 0, slot + 8 * field, bytes([at + 1])), f"cache.c:{field + 3} put")
+        add(("clwb", 0, slot), "cache.c:8 put")
+        add(("sfence", 0), "cache.c:9 put")
+        for field in (1, 2):
+            add(("store", 0, other + 8 * field, bytes([at + 1])), f"lru.c:{field + 6} touch")
+    return events, labels
 
 
 def things_of(kind, explained):

@@ -2,6 +2,7 @@
 import collections
 import json
 import re
+import shlex
 import subprocess
 import unicodedata
 
@@ -18,6 +19,8 @@ ROW = re.compile(rf" {{4,}}(?P<event>\d+) (?P<word>{WORDS})(?: (?P<address>0x[0-
 RANK = re.compile(r"(\d+)\. ")
 LEFT = re.compile(r"   \.\. (\d+) more \(--limit all\)$")
 STORY = 6
+# A slip concerns one in so many stores at most, and what comes again and again comes so often.
+SLIP, AGAIN = 3, 10
 
 
 def run(program, *words, **options):
@@ -49,10 +52,19 @@ class Screen:
         full = self.told["failure"] if most == "all" else self.told["failure"][: int(most)]
         claimed = {site_of(failure["lost"]["store"]) for failure in full}
         entries = [entry for entry in self.told["entry"] if not stands_in(claimed, entry)]
-        self.weighty = [entry for entry in entries if entry["word"] != "meant"]
-        self.meant = [entry for entry in entries if entry["word"] == "meant"]
+        words = shlex.split(next_of(self) or "")
+        self.volatile = {word for before, word in zip(words, words[1:]) if before == "--ignore-label"}
+        apart = [entry for entry in entries if self.is_volatile(entry)]
+        self.weighty = [entry for entry in entries if entry["word"] != "meant" and entry not in apart]
+        # fields that may be volatile are one question
+        self.meant = [entry for entry in entries if entry["word"] == "meant"] + apart[:1]
         trace = (options["cwd"] / file if "cwd" in options else file).read_text()
         self.events = [line.split(" ") for line in trace.splitlines()[1:]]
+
+    def is_volatile(self, entry):
+        """Whether its sites store to fields that are told apart, as the next command names them."""
+        names = {site["label"] for site in entry["sites"]}
+        return entry["subject"] == "stores" and entry["word"] != "meant" and names <= self.volatile and not entry["more_sites"]
 
     @property
     def start(self):
@@ -127,8 +139,7 @@ def wrong_entries(screen):
         return f"{len(found)} entries and {left} more, of {len(groups)}"
     for lines, (entry, *_) in zip(found, groups):
         text, rows = " ".join(line.strip() for line in lines), sum(bool(ROW.match(line)) for line in lines)
-        # a failure in one line has its site only if there is room
-        is_claim = entry["subject"] == "failure" and (entry["sites"][0]["label"] is None or not rows)
+        is_claim = entry["subject"] == "failure" and entry["sites"][0]["label"] is None
         named = "is" if is_claim else entry["path"] or short(entry["sites"][0])
         if named not in text and named.split(" < ")[0] not in text or rows > STORY:
             return f"{named} is not in {lines}, or it has {rows} rows"
@@ -142,6 +153,15 @@ def wrong_meant(screen):
     left = [int(found[1]) for found in map(LEFT.match, below) if found]
     right = len(told) + sum(left) == len(screen.meant)
     return None if right else f"{len(screen.meant)} may be meant, and not {below}"
+
+
+def wrong_volatile(screen):
+    """What is told as a field that may be volatile, though hardly anything is lost, or its site saves or seldom misses."""
+    rows = {row["label"]: row for row in screen.told["place"]}
+    saves = lambda row: row["in_time"] * SLIP > row["stores"] or row["never_persisted"] + row["late"] < AGAIN
+    wrong = [name for name in screen.volatile if saves(rows[name])]
+    is_much = screen.summary["never_persisted"] * SLIP > screen.summary["stores"]
+    return f"not volatile: {wrong or screen.volatile}" if wrong or screen.volatile and not is_much else None
 
 
 def next_of(screen):
@@ -158,5 +178,5 @@ def wrong_screen(screen):
         return f"no verdict, or wide: {wide}, in\n{screen.text}"
     if bool(next_of(screen)) != bool(screen.summary["stores"]):
         return f"next: {next_of(screen)}, in\n{screen.text}"
-    wrong = wrong_rows(screen) or wrong_entries(screen) or wrong_meant(screen)
+    wrong = wrong_rows(screen) or wrong_entries(screen) or wrong_meant(screen) or wrong_volatile(screen)
     return f"{wrong}, in\n{screen.text}" if wrong else None

@@ -56,16 +56,11 @@ pub struct ExplainWords<'a> {
 
 /// What is asked of an explanation where all findings of this kind matter, or of all kinds, and no entry is shown.
 pub fn options_for(alloc: Global, only: Option<Kind>) -> Options {
+    let mut choice = Choice::all();
+    choice.only = only;
     Options {
         ignored: Ignored::new(alloc),
         limit: 0,
-        choice: Choice {
-            only,
-            thread: None,
-            range: None,
-            from: None,
-            to: None,
-            label: None,
-        },
+        choice,
     }
 }

@@ -1,5 +1,5 @@
 -- Which findings are asked for.
-use Rattle.std.specs.Prelude.{◌≡◌, ℕ, ◌+◌, ◌-◌, ◌*◌, ◌^◌, ◌==◌, ◌&&◌, ◌||◌, nat_lt, nat_le, nat_eq, Bool, true, false, List, length, drop, Option, None, Some, unwrap_or, option_map, string_bytes, codes}
+use Rattle.std.specs.Prelude.{◌≡◌, ℕ, ◌+◌, ◌-◌, ◌*◌, ◌^◌, ◌==◌, ◌&&◌, ◌||◌, nat_lt, nat_le, nat_eq, Bool, true, false, List, length, drop, Option, None, Some, is_none, unwrap_or, option_map, string_bytes, codes}
 use Rattle.std.specs.List.{list_any, range_with_len, starts_with}
 use Rattle.pmt_model.specs.Values.{Layout, line_of}
 use Rattle.pmt_model.specs.declared.event.Event.{Event}
@@ -95,12 +95,12 @@ is_event_chosen T labels c i None = false
 is_event_chosen T labels c i (Some e) = stands_between c i && is_thread_chosen c e.thread && op_meets T.format c.range e.op && is_label_chosen labels c i
 
 -- Nothing but a kind is asked for.
-pub record ChoosesAll (c : Choice) : Type 0 where
-  pub thread : c.thread ≡ None
-  pub range : c.range ≡ None
-  pub from : c.from ≡ None
-  pub to : c.to ≡ None
-  pub label : c.label ≡ None
+abbrev pub chooses_all : Choice → Bool
+chooses_all c = is_none c.thread && is_none c.range && is_none c.from && is_none c.to && is_none c.label
+
+-- No option chooses findings.
+abbrev pub tells_all : Choice → Bool
+tells_all c = is_none c.only && chooses_all c
 
 -- Findings of event i are asked for.
 abbrev pub is_chosen : Recording → Labels → Choice → ℕ → Bool

@@ -1,7 +1,7 @@
 //! Which findings are asked for.
-ghost use Rattle.std.specs.Prelude.{◌≡◌, ◌+◌, is_some, nat_lt, IsTrue};
+ghost use Rattle.std.specs.Prelude.{◌≡◌, ◌+◌, is_some, nat_lt, true};
 ghost use Rattle.pmt_model.specs.Traces.{event};
-ghost use Rattle.pmt_asked.specs.Choosing.{ChoosesAll, has_text as text_has, is_asked_for as asked_for, is_chosen as event_chosen, is_kind_chosen, is_label_chosen, is_same_kind as same_kind, is_thread_chosen, kind_name, meets as ranges_meet, meets_line as line_met, op_meets, stands_between};
+ghost use Rattle.pmt_asked.specs.Choosing.{chooses_all as chooses_all_in, has_text as text_has, is_asked_for as asked_for, is_chosen as event_chosen, is_kind_chosen, is_label_chosen, is_same_kind as same_kind, is_thread_chosen, kind_name, meets as ranges_meet, meets_line as line_met, op_meets, stands_between, tells_all as tells_all_in};
 
 use crate::ignoring::ByteRange;
 use crate::labels::Labels;
@@ -58,6 +58,37 @@ pub struct Choice {
     pub to: Option<u64>,
     /// Those of an event whose label has this text in it.
     pub label: Option<String>,
+}
+
+impl Choice {
+    /// All findings.
+    pub fn all() -> Self
+        ensures { tells_all_in result ≡ true }
+    {
+        Choice {
+            only: None,
+            thread: None,
+            range: None,
+            from: None,
+            to: None,
+            label: None,
+        }
+    }
+
+    /// Whether no option chooses findings.
+    pub fn tells_all(&self) -> bool
+        ensures { result ≡ tells_all_in self.now }
+    {
+        self.only.is_none() && chooses_all(self)
+    }
+
+    /// The event of the failed assertion that is told alone, if one is.
+    pub fn failure(&self) -> Option<u64> {
+        let is_failure = matches!(self.only, Some(Kind::Failure));
+        let is_all = self.thread.is_none() && self.range.is_none() && self.label.is_none();
+        let is_one = is_failure && is_all && self.from == self.to;
+        self.from.filter(|_| is_one)
+    }
 }
 
 /// Whether findings of the kind are asked for.
@@ -119,7 +150,7 @@ fn is_chosen(trace: &Trace, labels: &Labels, choice: &Choice, number: u64) -> bo
 // Whether nothing but a kind is asked for.
 #[inline(always)]
 fn chooses_all(choice: &Choice) -> bool
-    ensures { IsTrue result → ChoosesAll choice.now }
+    ensures { result ≡ chooses_all_in choice.now }
 {
     choice.thread.is_none()
         && choice.range.is_none()

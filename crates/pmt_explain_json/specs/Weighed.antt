@@ -1,7 +1,8 @@
 -- The verdict, and the entries by weight, as JSON.
-use Rattle.std.specs.Prelude.{ℕ, ◌-◌, ◌&&◌, Bool, List, [], ◌∷◌, length, map, take, Option, None, Some, slice_get, is_none, if◌then◌else◌, codes}
+use Rattle.std.specs.Prelude.{ℕ, ◌-◌, List, [], ◌∷◌, length, map, take, Option, None, Some, slice_get, if◌then◌else◌, codes}
 use Rattle.serde_json.specs.Data.{Data, boolean, string}
 use Rattle.pmt_asked.specs.declared.choosing.Choice.{Choice}
+use Rattle.pmt_asked.specs.Choosing.{tells_all}
 use Rattle.pmt_asked.specs.declared.labels.Labels.{Labels}
 use Rattle.pmt_causes.specs.declared.failure_keys.Origin.{Origin}
 use Rattle.pmt_causes.specs.declared.grouping.Group.{Group}
@@ -110,10 +111,6 @@ told_line x labels e (Some f) = json_line (entry_data x labels e f)
 
 abbrev pub entry_line : Explanation → Labels → Entry → List ℕ
 entry_line x labels e = told_line x labels e (facts_of x e.subject)
-
--- No option chooses findings.
-abbrev pub tells_all : Choice → Bool
-tells_all c = is_none c.only && is_none c.thread && is_none c.range && is_none c.from && is_none c.to && is_none c.label
 
 -- The entries, where no option chooses findings.
 abbrev pub told_entries : Explanation → Choice → List Entry

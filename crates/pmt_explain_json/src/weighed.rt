@@ -6,7 +6,7 @@ ghost use Rattle.serde_json.specs.View.{view};
 ghost use Rattle.pmt_hints.specs.declared.hint.HintKind.{HintKind as Kind};
 ghost use Rattle.pmt_explain_json.specs.Hints.{hint_name as hint_name_in};
 ghost use Rattle.pmt_explain_json.specs.Parts.{array_of, json_line, or_null};
-ghost use Rattle.pmt_explain_json.specs.Weighed.{entry_data, entry_line, members_of as members_in, place_of, site_at, site_data, sites_data, sites_left, subject_name as subject_in, tells_all as tells_all_in, told_entries as told_in, verdict_name as verdict_in, weight_name as weight_in, why_name as why_in};
+ghost use Rattle.pmt_explain_json.specs.Weighed.{entry_data, entry_line, members_of as members_in, place_of, site_at, site_data, sites_data, sites_left, subject_name as subject_in, told_entries as told_in, verdict_name as verdict_in, weight_name as weight_in, why_name as why_in};
 
 use crate::causes::cause_name;
 use crate::facts::{Facts, Why, facts_of};
@@ -31,23 +31,11 @@ const MOST_SITES: usize = 100;
 pub(crate) fn told_entries<'a>(explanation: &'a Explanation, choice: &Choice) -> &'a [Entry]
     ensures { result.now ≡ told_in explanation.now choice.now }
 {
-    if tells_all(choice) {
+    if choice.tells_all() {
         explanation.entries.entries.as_slice()
     } else {
         &[]
     }
-}
-
-// Whether no option chooses findings.
-fn tells_all(choice: &Choice) -> bool
-    ensures { result ≡ tells_all_in choice.now }
-{
-    choice.only.is_none()
-        && choice.thread.is_none()
-        && choice.range.is_none()
-        && choice.from.is_none()
-        && choice.to.is_none()
-        && choice.label.is_none()
 }
 
 // Adds the entries.

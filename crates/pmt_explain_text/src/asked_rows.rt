@@ -4,10 +4,9 @@ use crate::only::{push_heading, push_left, push_row, row_of};
 use pmt_causes::{DroppedKey, Group, LateSpot, LostKey, Origin, ReasonKind, Spot};
 use pmt_explain::OverwrittenGroup;
 use pmt_explanation::{first, first_of};
-use pmt_model::OutOfMemory;
 use pmt_pen::Pen;
 use pmt_reasons::{Cause, Reason};
-use pmt_telling::{Telling, push_site};
+use pmt_telling::{Made, Telling, push_site};
 use pmt_text::word_of;
 
 // Adds the stores that are never persisted, a row for each cause and site.
@@ -72,7 +71,7 @@ fn late_row(told: &Telling<'_>, group: &Group<LateSpot>) -> Pen {
 }
 
 // Adds the overwritten stores, a row for each cache line, those with other bytes first.
-pub(crate) fn push_overwritten(pen: &mut Pen, told: &Telling<'_>) -> Result<(), OutOfMemory> {
+pub(crate) fn push_overwritten(pen: &mut Pen, told: &Telling<'_>) -> Made<()> {
     let found = told.explanation.overwritten.iter();
     let mut groups: Vec<OverwrittenGroup> = found.copied().collect(told.alloc)?;
     groups.sort_by_key(|group| group.same == group.count)?;

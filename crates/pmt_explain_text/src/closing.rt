@@ -1,15 +1,15 @@
 //! What stands below the entries of a screen.
 
 use crate::covered::push_not_covered;
-use crate::meant::push_replay;
+use crate::meant::{push_ignored, push_replay};
 use crate::small::push_small;
 use pmt_asked::{ByteRange, IgnoredPlace, is_at_place};
 use pmt_entries::Verdict;
 use pmt_explanation::Summary;
-use pmt_model::{Finding, OutOfMemory};
+use pmt_model::Finding;
 use pmt_pen::Pen;
 use pmt_telling::{
-    Bytes, Telling, Told, lines_of, pen_of, push_command, push_line, push_text, push_wrapped,
+    Bytes, Made, Telling, Told, lines_of, pen_of, push_command, push_line, push_text, push_wrapped,
 };
 
 // Adds what assertions do not cover and small things, as far as these have room, and what to do next, and how large the trace is; the entry is
@@ -20,7 +20,7 @@ pub(crate) fn push_closing(
     counts: &Summary,
     first: Option<&Told<'_>>,
     room: usize,
-) -> Result<(), OutOfMemory> {
+) -> Made<()> {
     let mut covered = Pen::new(told.alloc);
     push_not_covered(&mut covered, told, counts)?;
     let mut small = Pen::new(told.alloc);
@@ -48,6 +48,13 @@ fn push_next(pen: &mut Pen, told: &Telling<'_>, first: Option<&Told<'_>>) {
     if let Some(failing) = told.explanation.failing.first() {
         pen.put("next: ");
         push_command(pen, told, "pmtrim explain --failure #", *failing);
+    } else if told.explanation.entries.verdict == Verdict::Lost && !told.volatile.is_empty() {
+        pen.put("next: pmtrim explain");
+        let sites = told.explanation.entries.sites.iter();
+        for site in sites.filter(|site| told.volatile.contains(&site.row.place)) {
+            push_ignored(pen, told, site);
+        }
+        push_command(pen, told, "", 0);
     } else {
         let crashes = first.and_then(|entry| entry.crashes);
         pen.put(match crashes {

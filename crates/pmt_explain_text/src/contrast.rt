@@ -2,9 +2,8 @@
 
 use pmt_entries::Site;
 use pmt_fates::PlaceRow;
-use pmt_model::OutOfMemory;
 use pmt_pen::Pen;
-use pmt_telling::{Telling, Told, frame_at, frames_up_to, push_call, push_spot};
+use pmt_telling::{Made, Telling, Told, frame_at, frames_up_to, push_call, push_spot};
 
 // The most callers of a path that are compared.
 const DEEPEST: usize = 64;
@@ -35,9 +34,16 @@ struct Split<'a> {
     others: Share,
 }
 
+impl Split<'_> {
+    // Whether none goes wrong by way of others.
+    fn is_only(&self) -> bool {
+        self.others.part == self.others.all
+    }
+}
+
 // Adds what becomes of both, by these forms.
 fn push_split(pen: &mut Pen, told: &Telling<'_>, split: &Split<'_>, own: &str, others: &str) {
-    pen.put("by ");
+    pen.put(if split.is_only() { "only by " } else { "by " });
     push_call(pen, split.frame);
     told.say(pen, own, &[split.own.part, split.own.all]);
     pen.put("; by other callers");
@@ -50,7 +56,7 @@ pub(crate) fn add_contrast<'a>(
     site: &Site,
     sites: usize,
     entry: &mut Told<'a>,
-) -> Result<(), OutOfMemory> {
+) -> Made<()> {
     let rows = told.explanation.paths.iter();
     let paths: Vec<&PlaceRow> = rows
         .filter(|row| told.origin(row.first) == site.row.place)
@@ -58,20 +64,24 @@ pub(crate) fn add_contrast<'a>(
     let label = told.label(site.first).unwrap_or("");
     let mut line = Pen::new(told.alloc);
     if let Some(split) = split_of(told, paths.as_slice(), label) {
-        let own = words_of(&site.row, split.own.all);
+        let own = words_of(&site.row);
         push_split(&mut line, told, &split, own, ": % of % in time");
         entry.call = Some(split.frame);
         entry.site = Pen::new(told.alloc);
         push_call(&mut entry.site, split.frame);
-        entry.aside(line);
+        if split.is_only() {
+            entry.gist.put(" by this caller alone; meant?");
+        }
     } else if stores_of(&site.row) > 1 {
         push_share(&mut line, told, &site.row, sites);
+    }
+    if line.len() > 0 {
         entry.aside(line);
     }
     Ok(())
 }
 
-// The split by the innermost caller of the label through which no path saves any in time, though another path saves all.
+// The split by the innermost caller of the label through which all goes that is missed, or no path saves any in time; another path saves all.
 fn split_of<'a>(told: &Telling<'a>, paths: &[&PlaceRow], label: &'a str) -> Option<Split<'a>> {
     for depth in 1..DEEPEST {
         let frame = frame_at(label, depth)?;
@@ -91,27 +101,25 @@ fn split_of<'a>(told: &Telling<'a>, paths: &[&PlaceRow], label: &'a str) -> Opti
                 has_good = has_good || missed == 0;
             }
         }
-        if is_split && has_good {
-            return Some(Split { frame, own, others });
+        let split = Split { frame, own, others };
+        if has_good && (is_split || split.is_only()) {
+            return Some(split);
         }
     }
     None
 }
 
-// What becomes of the site's stores by way of the caller, of which there are so many.
-fn words_of(row: &PlaceRow, stores: u64) -> &'static str {
-    match (row.lost, row.late, stores) {
-        (_, 0, 1) => ": % of % never saved (ran once)",
-        (_, 0, _) => ": % of % never saved",
-        (0, _, 1) => ": % of % saved late (ran once)",
-        (0, _, _) => ": % of % saved late",
-        (_, _, 1) => ": % of % lost or late (ran once)",
+// What becomes of the site's stores by way of the caller.
+fn words_of(row: &PlaceRow) -> &'static str {
+    match (row.lost, row.late) {
+        (_, 0) => ": % of % never saved",
+        (0, _) => ": % of % saved late",
         _ => ": % of % lost or late",
     }
 }
 
 // How many stores the row loses or delays.
-fn missed_of(row: &PlaceRow) -> u64 {
+pub(crate) fn missed_of(row: &PlaceRow) -> u64 {
     row.lost.saturating_add(row.late)
 }
 
@@ -143,27 +151,19 @@ pub(crate) fn add_failing_call<'a>(entry: &mut Told<'a>, told: &Telling<'a>, eve
     let (mut own, mut others) = (EMPTY, EMPTY);
     for verdict in told.explanation.analysis.verdicts() {
         if told.origin(verdict.event) == site {
-            let fails = if verdict.pass { 0 } else { 1 };
+            let holds = if verdict.pass { 1 } else { 0 };
             if told.caller(verdict.event) == Some(frame) {
-                own.add(fails, 1);
+                own.add(1u64.saturating_sub(holds), 1);
             } else {
-                others.add(fails, 1);
+                others.add(holds, 1);
             }
         }
     }
-    if others.part < others.all {
+    if others.part > 0 {
         let mut line = Pen::new(told.alloc);
         let split = Split { frame, own, others };
-        push_split(&mut line, told, &split, failing(own), failing(others));
+        push_split(&mut line, told, &split, ": % of % fail", ": % of % hold");
         entry.aside(line);
         entry.call = Some(frame);
-    }
-}
-
-// How many of these fail.
-fn failing(share: Share) -> &'static str {
-    match share.part {
-        1 => ": % of % fails",
-        _ => ": % of % fail",
     }
 }

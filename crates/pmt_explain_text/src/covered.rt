@@ -2,20 +2,15 @@
 
 use pmt_causes::Origin;
 use pmt_explanation::Summary;
-use pmt_model::OutOfMemory;
 use pmt_pen::Pen;
-use pmt_telling::{Bytes, Telling, push_sites, push_wrapped};
+use pmt_telling::{Bytes, Made, Telling, push_sites, push_wrapped};
 use std::collections::HashMap;
 
 // The columns before further lines.
 const FURTHER: u64 = 4;
 
 // Adds what no assertion speaks of, where none fails.
-pub(crate) fn push_not_covered(
-    pen: &mut Pen,
-    told: &Telling<'_>,
-    counts: &Summary,
-) -> Result<(), OutOfMemory> {
+pub(crate) fn push_not_covered(pen: &mut Pen, told: &Telling<'_>, counts: &Summary) -> Made<()> {
     if counts.stores == 0 || counts.failing > 0 || counts.assertions == 0 {
         return Ok(());
     }
@@ -41,16 +36,11 @@ fn push_such(pen: &mut Pen, told: &Telling<'_>, form: &str, count: u64, first: u
 
 // Adds how many orders have a second range in several cache lines, if some have.
 fn push_wide(pen: &mut Pen, told: &Telling<'_>) {
-    let mut count = 0u64;
-    let mut first = 0u64;
-    for verdict in told.explanation.analysis.verdicts() {
-        if is_wide(told, verdict.event) {
-            first = if count == 0 { verdict.event } else { first };
-            count = count.saturating_add(1);
-        }
-    }
-    if count > 0 {
-        push_such(pen, told, WIDE, count, first);
+    let verdicts = told.explanation.analysis.verdicts().iter();
+    let mut wide = verdicts.filter(|verdict| is_wide(told, verdict.event));
+    if let Some(first) = wide.next() {
+        let count = (wide.count() as u64).saturating_add(1);
+        push_such(pen, told, WIDE, count, first.event);
     }
 }
 
@@ -64,7 +54,7 @@ fn is_wide(told: &Telling<'_>, number: u64) -> bool {
 }
 
 // Adds the sites that store no byte which an assertion names.
-fn push_unnamed(pen: &mut Pen, told: &Telling<'_>) -> Result<(), OutOfMemory> {
+fn push_unnamed(pen: &mut Pen, told: &Telling<'_>) -> Made<()> {
     let named = named_sites(told)?;
     let places = told.explanation.places.iter();
     let storing = places.filter(|row| row.stores > 0).map(|row| row.place);
@@ -81,7 +71,7 @@ fn push_unnamed(pen: &mut Pen, told: &Telling<'_>) -> Result<(), OutOfMemory> {
 }
 
 // The sites that store a byte which an assertion names.
-fn named_sites(told: &Telling<'_>) -> Result<HashMap<Origin, bool>, OutOfMemory> {
+fn named_sites(told: &Telling<'_>) -> Made<HashMap<Origin, bool>> {
     let spans = named_spans(told)?;
     let mut named: HashMap<Origin, bool> = HashMap::new(told.alloc);
     for number in 1..told.end() {
@@ -97,7 +87,7 @@ fn named_sites(told: &Telling<'_>) -> Result<HashMap<Origin, bool>, OutOfMemory>
 }
 
 // The bytes that assertions name, by rising start; each with the end of these or of any before.
-fn named_spans(told: &Telling<'_>) -> Result<Vec<Bytes>, OutOfMemory> {
+fn named_spans(told: &Telling<'_>) -> Made<Vec<Bytes>> {
     let mut spans = Vec::new(told.alloc);
     for verdict in told.explanation.analysis.verdicts() {
         if let Some(range) = told.first_range(verdict.event) {

@@ -5,9 +5,9 @@ use crate::hints::hint_entry;
 use crate::left::left_entry;
 use crate::losses::{loss_entry, sites_of};
 use crate::meant::meant_entry;
+use crate::volatile::is_volatile;
 use pmt_entries::{Entry, Site, Subject, Weight};
-use pmt_model::OutOfMemory;
-use pmt_telling::{Telling, Told};
+use pmt_telling::{Made, Telling, Told};
 
 // The most entries of a screen that are told.
 const MOST: usize = 5;
@@ -30,10 +30,7 @@ impl<'a> Shown<'a> {
 }
 
 // The first of the entries that are meant, or of those that are not: as many as a screen tells, or as are asked for.
-pub(crate) fn shown_entries<'a>(
-    told: &Telling<'a>,
-    are_meant: bool,
-) -> Result<Shown<'a>, OutOfMemory> {
+pub(crate) fn shown_entries<'a>(told: &Telling<'a>, are_meant: bool) -> Made<Shown<'a>> {
     let limit = told.explanation.limit;
     let most = match told.screen.rows {
         Some(_) => MOST.min(limit),
@@ -46,16 +43,20 @@ pub(crate) fn shown_entries<'a>(
     // How many of the next entries stand in the one before.
     let mut within = 0u64;
     for entry in told.explanation.entries.entries.iter() {
-        if (entry.weight == Weight::Meant) != are_meant || is_in_failure(told, *entry)? {
+        let is_apart = is_volatile(told, *entry);
+        let is_meant = is_apart || entry.weight == Weight::Meant;
+        if is_meant != are_meant || is_in_failure(told, *entry)? {
             continue;
         }
-        if within > 0 {
+        if within > 0 || is_apart && found.total > 0 {
             within = within.saturating_sub(1);
             continue;
         }
         let index = found.total;
         if index < most {
-            within = causes_within(told, *entry);
+            if let Subject::Failure(cause) = entry.subject {
+                within = causes_told(told, cause).saturating_sub(1);
+            }
             let words = entry_of(told, *entry, index < STORIES)?;
             found.entries.push(words)?;
         }
@@ -65,7 +66,7 @@ pub(crate) fn shown_entries<'a>(
 }
 
 // Whether a failure tells it: a loss of which nothing tells why, but that assertions fail for a store of each of its sites.
-fn is_in_failure(told: &Telling<'_>, entry: Entry) -> Result<bool, OutOfMemory> {
+fn is_in_failure(told: &Telling<'_>, entry: Entry) -> Made<bool> {
     let Subject::Loss(index) = entry.subject else {
         return Ok(false);
     };
@@ -76,23 +77,18 @@ fn is_in_failure(told: &Telling<'_>, entry: Entry) -> Result<bool, OutOfMemory> 
     Ok(!sites.is_empty() && sites.iter().all(|site| is_told(site)))
 }
 
-// How many of the next causes the entry tells besides its own.
-fn causes_within(told: &Telling<'_>, entry: Entry) -> u64 {
-    match entry.subject {
-        Subject::Failure(index) => causes_told(told, index).saturating_sub(1),
-        _ => 0,
-    }
-}
-
 // The entry in words.
-fn entry_of<'a>(
-    told: &Telling<'a>,
-    entry: Entry,
-    has_story: bool,
-) -> Result<Told<'a>, OutOfMemory> {
+fn entry_of<'a>(told: &Telling<'a>, entry: Entry, has_story: bool) -> Made<Told<'a>> {
     match entry.subject {
+        _ if is_volatile(told, entry) => {
+            let sites = told.explanation.entries.sites.iter();
+            let sites = sites.filter(|site| told.volatile.contains(&site.row.place));
+            meant_entry(told, sites.copied().collect(told.alloc)?)
+        }
         Subject::Failure(index) => failure_entry(told, index, has_story),
-        Subject::Loss(index) if entry.weight == Weight::Meant => meant_entry(told, index),
+        Subject::Loss(index) if entry.weight == Weight::Meant => {
+            meant_entry(told, sites_of(told, index)?)
+        }
         Subject::Loss(index) => loss_entry(told, index, has_story),
         Subject::Hint(index) => Ok(hint_entry(told, index)),
         Subject::Left(index) => {

@@ -1,13 +1,15 @@
 //! Entries of failed assertions.
 
 use crate::contrast::{add_failing_call, push_share};
-use crate::partners::{Saving, saving_of};
+use crate::partners::{IN_VAIN, Saving, is_stray, saving_of};
 use pmt_causes::{AssertionKind, CauseKind, FailureKey, Group, Origin};
 use pmt_failures::ShownFailure;
-use pmt_model::{Op, OutOfMemory};
 use pmt_pen::Pen;
 use pmt_reasons::{Cause, Mend};
-use pmt_telling::{Telling, Told, named_of, pen_of, push_comma, push_more, push_site, push_spot};
+use pmt_telling::{
+    Made, NEAR, Telling, Told, named_of, pen_of, push_comma, push_more, push_site, push_spot,
+    site_frame,
+};
 
 // Of how many causes the entry of the cause with this index tells: of itself and those behind it that lose a store of the same site for the same
 // reason.
@@ -30,11 +32,7 @@ fn told_with(told: &Telling<'_>, index: usize) -> Option<(Origin, CauseKind, boo
 
 // What is told of the causes of failed assertions from the one with this index on that are told with it; nothing where it is not known in full.
 // With its whole story it takes a look at all assertions, and at the events after the lost store.
-pub(crate) fn failure_entry<'a>(
-    told: &Telling<'a>,
-    index: u64,
-    has_story: bool,
-) -> Result<Told<'a>, OutOfMemory> {
+pub(crate) fn failure_entry<'a>(told: &Telling<'a>, index: u64, has_story: bool) -> Made<Told<'a>> {
     let mut entry = Told::new(told.alloc);
     let Some(shown) = told.explanation.failures.get(index as usize).copied() else {
         return Ok(entry);
@@ -52,7 +50,7 @@ pub(crate) fn failure_entry<'a>(
         entry.aside(pen_of(told.alloc, LAST_LINE));
     }
     add_missed(&mut entry, told, shown.failure.lost.store);
-    add_story(&mut entry, &shown, saving);
+    add_story(&mut entry, told, &shown, saving);
     match early {
         Some(saves) => tell_publishing(&mut entry, told, &shown, saves),
         None => tell_fix(&mut entry, told, shown.mend),
@@ -117,16 +115,15 @@ fn push_thread(pen: &mut Pen, told: &Telling<'_>, thread: u8) {
     }
 }
 
-// Adds how many stores of the store's site are lost or late, if it has several.
+// Adds how many stores of the store's line of source are lost or late, if it has several.
 fn add_missed(entry: &mut Told<'_>, told: &Telling<'_>, store: u64) {
     let place = told.origin(store);
-    let sites = told.explanation.entries.sites.as_slice();
-    if let Some(site) = sites.iter().find(|site| site.row.place == place) {
-        if site.row.stores > 1 {
-            let mut line = pen_of(told.alloc, "lost or late: ");
-            push_share(&mut line, told, &site.row, 2);
-            entry.aside(line);
-        }
+    let mut sites = told.explanation.entries.sites.iter();
+    let site = sites.find(|site| site.row.place == place && site.row.stores > 1);
+    if let Some(site) = site.filter(|_| site_frame(told, place).is_some()) {
+        let mut line = pen_of(told.alloc, "lost or late: ");
+        push_share(&mut line, told, &site.row, 2);
+        entry.aside(line);
     }
 }
 
@@ -141,23 +138,16 @@ const LAST_LINE: &str =
 
 // Whether the assertion loses the last of several cache lines of its range.
 fn loses_last_line(told: &Telling<'_>, shown: &ShownFailure) -> bool {
-    let Some(op) = told.op(shown.event) else {
+    let Some(range) = told.first_range(shown.event) else {
         return false;
     };
-    match op {
-        Op::IsPersist(range) | Op::IsOrderedBefore(range, _) => {
-            let size = told.trace.format().line_size();
-            let first = range.addr().get();
-            let last = first.saturating_add(range.len().saturating_sub(1)) / size;
-            first / size < last && shown.failure.lost.byte / size == last
-        }
-        Op::Store(_) | Op::Clwb(_) | Op::ClflushOpt(_) | Op::Clflush(_) | Op::Sfence | Op::Mfence =>
-            false,
-    }
+    let size = told.trace.format().line_size();
+    let last = range.end.saturating_sub(1) / size;
+    range.start / size < last && shown.failure.lost.byte / size == last
 }
 
 // Adds the events that tell why the store is lost.
-fn add_story(entry: &mut Told<'_>, shown: &ShownFailure, saving: Saving) {
+fn add_story(entry: &mut Told<'_>, told: &Telling<'_>, shown: &ShownFailure, saving: Saving) {
     let kept = shown.failure.kept.map(|kept| kept.store);
     let claim = match kept {
         Some(_) => "claims the order",
@@ -169,6 +159,10 @@ fn add_story(entry: &mut Told<'_>, shown: &ShownFailure, saving: Saving) {
     match shown.cause {
         Cause::Later => return,
         Cause::Unflushed => {
+            let lost = shown.failure.lost.store;
+            let mut near = lost..shown.event.min(lost.saturating_add(NEAR));
+            let stray = near.find(|number| is_stray(told, lost, *number));
+            entry.row(stray, IN_VAIN);
             let flush = saving.flush.filter(|flush| saving.saves != Some(*flush));
             entry.row(flush, "flushed only here");
         }
@@ -182,11 +176,7 @@ fn add_story(entry: &mut Told<'_>, shown: &ShownFailure, saving: Saving) {
 
 // Tells after what the other thread may go on.
 fn tell_publishing(entry: &mut Told<'_>, told: &Telling<'_>, shown: &ShownFailure, saves: u64) {
-    let form = if told.is_fence(saves) {
-        "publish to thread # only after thread #'s fence, $"
-    } else {
-        "publish to thread # only after thread #'s flush, $"
-    };
+    let form = "publish to thread # only after thread # has made $";
     let other = told.thread(shown.event) as u64;
     let own = told.thread(saves) as u64;
     told.say(&mut entry.fix, form, &[other, own, saves]);
@@ -223,11 +213,9 @@ fn tell_fix(entry: &mut Told<'_>, told: &Telling<'_>, mend: Mend) {
         } => {
             let events = [store, before.unwrap_or(0)];
             told.say(fix, "make the store of $ first, before $", &events);
-            fix.put(if same_line {
-                ""
-            } else {
-                ", and flush and fence between"
-            });
+            if !same_line {
+                fix.put(", and flush and fence between");
+            }
             Some(store)
         }
     };

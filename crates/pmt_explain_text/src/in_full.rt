@@ -1,11 +1,12 @@
 //! A failed assertion in full, behind its entry.
 
 use crate::memory::{Cell, cells_of, push_memory};
-use pmt_failures::{ShownCrash, ShownFailure, shown_crash};
-use pmt_model::{Op, OutOfMemory};
+use pmt_failures::{ShownCrash, shown_crash};
+use pmt_model::Op;
 use pmt_pen::Pen;
-use pmt_reasons::Cause;
-use pmt_telling::{Bytes, Telling, pen_of, push_command, push_event, push_words, push_wrapped};
+use pmt_telling::{
+    Bytes, Made, Telling, pen_of, push_command, push_event, push_words, push_wrapped,
+};
 
 // The columns before the further lines of a row.
 const FURTHER: u64 = 10;
@@ -17,7 +18,7 @@ const FEW: usize = 3;
 const ROWS: usize = 8;
 
 // Adds all that is known of the failed assertion that is told alone: the claim, the crash, and what the crash leaves.
-pub(crate) fn push_failure_in_full(pen: &mut Pen, told: &Telling<'_>) -> Result<(), OutOfMemory> {
+pub(crate) fn push_failure_in_full(pen: &mut Pen, told: &Telling<'_>) -> Made<()> {
     let Some(shown) = told.explanation.failures.first() else {
         return Ok(());
     };
@@ -28,7 +29,6 @@ pub(crate) fn push_failure_in_full(pen: &mut Pen, told: &Telling<'_>) -> Result<
     }
     let lost = shown.failure.lost;
     push_stored(pen, told, "  loses:  byte @ of ", lost.byte, lost.store);
-    push_why(pen, told, shown);
     let crash = shown_crash(told.alloc, told.trace, shown)?;
     push_range(pen, told, &crash)?;
     push_kept(pen, told, &crash);
@@ -43,24 +43,6 @@ fn push_stored(pen: &mut Pen, told: &Telling<'_>, form: &str, byte: u64, event: 
     let mut line = told.said(form, &[byte]);
     push_event(&mut line, told, event);
     push_wrapped(pen, &line, FURTHER);
-}
-
-const LATER: &str = "  why:    the store comes later than the crash";
-
-const UNFLUSHED: &str = "  why:    no flush of cache line @ follows the store by then";
-
-const UNFENCED: &str =
-    "  why:    event # flushes cache line @, and thread # makes no fence after it by then";
-
-// Adds why the lost store is not safe at the crash.
-fn push_why(pen: &mut Pen, told: &Telling<'_>, shown: &ShownFailure) {
-    let address = told.line_start(shown.failure.lost.store);
-    let (form, numbers) = match shown.cause {
-        Cause::Later => (LATER, [0, 0, 0]),
-        Cause::Unflushed => (UNFLUSHED, [address, 0, 0]),
-        Cause::Unfenced { flush, thread, .. } => (UNFENCED, [flush, address, thread as u64]),
-    };
-    push_wrapped(pen, &told.said(form, &numbers), FURTHER);
 }
 
 // Adds of which cache lines the crash keeps fewer stores than there are, and of how many it keeps all.
@@ -81,7 +63,7 @@ fn push_kept(pen: &mut Pen, told: &Telling<'_>, crash: &ShownCrash) {
 }
 
 // Adds the range that the assertion wants kept, cache line by cache line, and its lost bytes.
-fn push_range(pen: &mut Pen, told: &Telling<'_>, crash: &ShownCrash) -> Result<(), OutOfMemory> {
+fn push_range(pen: &mut Pen, told: &Telling<'_>, crash: &ShownCrash) -> Made<()> {
     let Some(after) = crash.ranges.first() else {
         return Ok(());
     };
@@ -103,11 +85,7 @@ struct LineLoss {
 }
 
 // The cache lines of the range, lowest first, with what these cells of each lose.
-fn lost_by_line(
-    told: &Telling<'_>,
-    range: Bytes,
-    cells: &[Cell],
-) -> Result<Vec<LineLoss>, OutOfMemory> {
+fn lost_by_line(told: &Telling<'_>, range: Bytes, cells: &[Cell]) -> Made<Vec<LineLoss>> {
     let size = told.trace.format().line_size().max(1);
     let end = range.end.saturating_add(size - 1) / size;
     let mut lines = Vec::new(told.alloc);

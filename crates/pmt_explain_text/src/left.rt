@@ -4,9 +4,8 @@ use crate::failures::push_flush_between;
 use crate::hints::push_caller;
 use crate::partners::saving_of;
 use pmt_fates::PlaceRow;
-use pmt_model::OutOfMemory;
 use pmt_pen::Pen;
-use pmt_telling::{Crashes, Telling, Told, pen_of, push_site, push_spot};
+use pmt_telling::{Crashes, Made, Telling, Told, pen_of, push_site, push_spot};
 
 // What is told of the site, or of the path: what a crash keeps without its first store, and what to do.
 pub(crate) fn left_entry<'a>(
@@ -14,7 +13,7 @@ pub(crate) fn left_entry<'a>(
     row: Option<&PlaceRow>,
     is_path: bool,
     has_story: bool,
-) -> Result<Told<'a>, OutOfMemory> {
+) -> Made<Told<'a>> {
     let mut entry = Told::new(told.alloc);
     let Some(row) = row else {
         return Ok(entry);
@@ -51,7 +50,7 @@ fn tell_store(
     row: &PlaceRow,
     store: u64,
     has_story: bool,
-) -> Result<(), OutOfMemory> {
+) -> Made<()> {
     let saves = saving_of(told, store, has_story)?.saves;
     let before = row.saved_before.map(|saved| saved.store);
     entry.row(Some(store), "a crash can lose it");

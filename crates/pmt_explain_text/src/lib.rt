@@ -19,6 +19,7 @@ mod partners;
 mod screen;
 mod small;
 mod verdict;
+mod volatile;
 
 pub use crate::screen::{source_places, text};
 pub use pmt_telling::Screen;

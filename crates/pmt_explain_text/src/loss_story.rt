@@ -1,15 +1,12 @@
 //! Why a store is never saved, or late: the reason, the few events that tell it, and the fix.
 
 use crate::losses::{late_in, sign_of};
-use crate::partners::partner_of;
-use pmt_causes::Origin;
+use crate::partners::{IN_VAIN, is_stray, partner_of};
 use pmt_entries::Site;
 use pmt_hints::HintKind;
-use pmt_model::OutOfMemory;
 use pmt_pen::Pen;
 use pmt_slices::{StorePart, StoreStory, store_story_of};
-use pmt_telling::{Crashes, NEAR, Telling, Told, push_lines, push_site};
-use std::collections::HashMap;
+use pmt_telling::{Crashes, Made, NEAR, Telling, Told, push_call, push_lines, push_site};
 
 // Why a store is lost or late.
 #[derive(Clone, Copy, PartialEq, Eq)]
@@ -45,7 +42,7 @@ pub(crate) fn add_story(
     main: &Site,
     sites: &[Site],
     entry: &mut Told<'_>,
-) -> Result<(), OutOfMemory> {
+) -> Made<()> {
     let Some(story) = store_story_of(told.alloc, told.trace, main.first)? else {
         return Ok(());
     };
@@ -76,16 +73,12 @@ pub(crate) fn add_story(
 // The crashes that can lose the store: until it is safe; of one that is never safe, until its thread's next fence.
 fn crashes_of(told: &Telling<'_>, shown: &Shown) -> Option<Crashes> {
     let from = shown.store;
-    if shown.story.is_safe() {
-        let last = shown.story.numbers().last().copied();
-        return last.map(|to| Crashes { from, to });
-    }
-    let to = shown.fence;
-    if to < told.end() {
-        Some(Crashes { from, to })
+    let to = if shown.story.is_safe() {
+        shown.story.numbers().last().copied()?
     } else {
-        None
-    }
+        shown.fence
+    };
+    Some(Crashes { from, to }).filter(|_| to < told.end())
 }
 
 // Why the main site's first missed store is so.
@@ -122,17 +115,18 @@ fn words_of(why: Why) -> &'static str {
 }
 
 // Notes what the same call misses at these sites: what its thread stores before its next fence.
-fn add_call(told: &Telling<'_>, sites: &[Site], shown: &mut Shown) -> Result<(), OutOfMemory> {
-    let mut places: HashMap<Origin, bool> = HashMap::new(told.alloc);
-    for site in sites {
-        places.insert(site.row.place, true)?;
-    }
+fn add_call(told: &Telling<'_>, sites: &[Site], shown: &mut Shown) -> Made<()> {
     let thread = told.thread(shown.store);
     let loses = told.is_lost(shown.store);
     for number in shown.store..shown.fence.min(shown.store.saturating_add(NEAR)) {
-        let is_late = told.waited(number) >= 2;
-        let is_missed = if loses { told.is_lost(number) } else { is_late };
-        if is_missed && told.thread(number) == thread && places.contains_key(&told.origin(number)) {
+        let place = told.origin(number);
+        let is_missed = if loses {
+            told.is_lost(number)
+        } else {
+            told.waited(number) >= 2
+        };
+        let is_here = sites.iter().any(|site| site.row.place == place);
+        if is_missed && told.thread(number) == thread && is_here {
             shown.lines.push(told.line(number).unwrap_or(0))?;
             shown.last = number;
         }
@@ -147,10 +141,12 @@ fn add_rows(told: &Telling<'_>, shown: &Shown, entry: &mut Told<'_>) {
     match shown.why {
         Why::Short(flush) => entry.row(Some(flush), "the last line flushed"),
         Why::AfterFlush(flush) => entry.row(flush, "flushes the line, too early"),
-        _ => entry.row(
-            last_idle(told, &shown.story),
-            "flushes another line, in vain",
-        ),
+        _ => {
+            let end = told.next_fence(shown.fence).unwrap_or(shown.fence);
+            let mut near = shown.store..end.min(shown.store.saturating_add(NEAR));
+            let stray = near.find(|number| is_stray(told, shown.store, *number));
+            entry.row(stray, IN_VAIN);
+        }
     }
     for number in shown.story.numbers() {
         let part = shown.story.part(*number);
@@ -158,16 +154,15 @@ fn add_rows(told: &Telling<'_>, shown: &Shown, entry: &mut Told<'_>) {
             entry.noted(*number, note_of(told, shown, *number, part));
         }
     }
-}
-
-// The last flush of another line in the story, if it does nothing: then its address may be wrong.
-fn last_idle(told: &Telling<'_>, story: &StoreStory) -> Option<u64> {
-    let numbers = story.numbers().iter();
-    let others = numbers.filter(|number| story.part(**number) == StorePart::Other);
-    let flush = others.last().copied()?;
-    let dropped = told.explanation.dropped.as_slice();
-    let found = dropped.binary_search_by_key(&flush, |dropped| dropped.event);
-    found.ok().map(|_| flush)
+    let mut numbers = shown.story.numbers().iter().rev();
+    let saver = numbers.find(|number| told.is_flush(**number)
+        && shown.story.part(**number) != StorePart::Other);
+    let caller = saver.and_then(|flush| told.caller(*flush));
+    if let Some(caller) = caller.filter(|_| shown.story.is_safe()) {
+        let mut line = told.said("flushed at last by way of ", &[]);
+        push_call(&mut line, caller);
+        entry.aside(line);
+    }
 }
 
 // What the event is to the store.

@@ -1,20 +1,15 @@
-//! Sites that lose or delay stores in the same calls, in words.
+//! Sites that lose or delay stores, first in the same call, in words.
 
 use crate::contrast::add_contrast;
 use crate::loss_story::add_story;
 use pmt_causes::Origin;
 use pmt_entries::Site;
 use pmt_hints::Hint;
-use pmt_model::OutOfMemory;
 use pmt_pen::Pen;
-use pmt_telling::{Telling, Told, push_site, push_sites, push_text};
+use pmt_telling::{Made, Telling, Told, push_site, push_sites, push_text};
 
 // The loss with this index, with its story or without.
-pub(crate) fn loss_entry<'a>(
-    told: &Telling<'a>,
-    index: u64,
-    has_story: bool,
-) -> Result<Told<'a>, OutOfMemory> {
+pub(crate) fn loss_entry<'a>(told: &Telling<'a>, index: u64, has_story: bool) -> Made<Told<'a>> {
     let mut entry = Told::new(told.alloc);
     let sites = sites_of(told, index)?;
     let Some(main) = main_site(sites.as_slice()) else {
@@ -40,7 +35,7 @@ pub(crate) fn sign_of(told: &Telling<'_>, site: &Site) -> Option<Hint> {
 }
 
 // The sites of the loss with this index.
-pub(crate) fn sites_of(told: &Telling<'_>, index: u64) -> Result<Vec<Site>, OutOfMemory> {
+pub(crate) fn sites_of(told: &Telling<'_>, index: u64) -> Made<Vec<Site>> {
     let entries = &told.explanation.entries;
     let Some(loss) = entries.losses.get(index as usize) else {
         return Ok(Vec::new(told.alloc));
@@ -82,11 +77,7 @@ fn push_missed(pen: &mut Pen, told: &Telling<'_>, sites: &[Site]) {
 }
 
 // Adds the names of the sites.
-pub(crate) fn push_all(
-    pen: &mut Pen,
-    told: &Telling<'_>,
-    sites: &[Site],
-) -> Result<(), OutOfMemory> {
+pub(crate) fn push_all(pen: &mut Pen, told: &Telling<'_>, sites: &[Site]) -> Made<()> {
     let places: Vec<Origin> = sites.iter().map(|site| site.row.place).collect(told.alloc)?;
     push_sites(pen, told, places.as_slice());
     Ok(())

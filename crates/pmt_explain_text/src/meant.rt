@@ -1,29 +1,27 @@
 //! Losses and delays that may be meant, each with the question that decides.
 
-use crate::losses::{late_in, lost_in, push_all, sites_of};
+use crate::losses::{late_in, lost_in, push_all};
 use pmt_entries::Site;
-use pmt_model::OutOfMemory;
 use pmt_pen::Pen;
-use pmt_telling::{Crashes, Telling, Told, push_lines, push_trace, push_word, site_frame};
+use pmt_telling::{Crashes, Made, Telling, Told, push_lines, push_trace, push_word, site_frame};
 
 // The most sites that options are named for.
 const FEW: usize = 3;
 
 const AGAIN: &str =
-    "): stored again and again, % time~, never flushed. Does recovery read it? If it does, this is a bug. If not:";
+    "): stored again and again, % time~ not saved in time. Does recovery read it? If it does, this is a bug.";
 
 const CLAIMED: &str = ": % store~ saved late, before an assertion first claims them.";
 
-// The loss with this index, as a question with the command that answers it or leaves the loss out.
-pub(crate) fn meant_entry<'a>(told: &Telling<'a>, index: u64) -> Result<Told<'a>, OutOfMemory> {
+// The loss of these sites, as a question with the command that answers it or leaves the loss out.
+pub(crate) fn meant_entry<'a>(told: &Telling<'a>, sites: Vec<Site>) -> Made<Told<'a>> {
     let mut entry = Told::new(told.alloc);
-    let sites = sites_of(told, index)?;
     let Some(first) = sites.first() else {
         return Ok(entry);
     };
     entry.call = site_frame(told, first.row.place);
     push_all(&mut entry.what, told, sites.as_slice())?;
-    if first.is_scratch {
+    if first.is_scratch || told.volatile.contains(&first.row.place) {
         push_scratch(&mut entry.what, told, sites.as_slice())?;
     } else {
         push_claimed(&mut entry.what, told, first, sites.as_slice());
@@ -31,23 +29,24 @@ pub(crate) fn meant_entry<'a>(told: &Telling<'a>, index: u64) -> Result<Told<'a>
     Ok(entry)
 }
 
-// Adds that the stores are never flushed, and what leaves them out.
-fn push_scratch(pen: &mut Pen, told: &Telling<'_>, sites: &[Site]) -> Result<(), OutOfMemory> {
+// Adds that the stores are never saved, and what leaves them out.
+fn push_scratch(pen: &mut Pen, told: &Telling<'_>, sites: &[Site]) -> Made<()> {
     let lines = sites.iter().map(|site| told.line(site.first).unwrap_or(0));
     let mut lines: Vec<u64> = lines.collect(told.alloc)?;
     lines.sort_unstable();
     lines.dedup();
     pen.put(" (");
     push_lines(pen, told, lines.as_slice());
-    told.say(pen, AGAIN, &[lost_in(sites)]);
-    for site in sites.iter().take(FEW) {
+    told.say(pen, AGAIN, &[lost_in(sites).saturating_add(late_in(sites))]);
+    pen.put(if lost_in(sites) > 0 { " If not:" } else { "" });
+    for site in sites.iter().filter(|site| site.row.lost > 0).take(FEW) {
         push_ignored(pen, told, site);
     }
     Ok(())
 }
 
 // Adds the option that leaves out the site: by its name, or of a thread by the cache line.
-fn push_ignored(pen: &mut Pen, told: &Telling<'_>, site: &Site) {
+pub(crate) fn push_ignored(pen: &mut Pen, told: &Telling<'_>, site: &Site) {
     match site_frame(told, site.row.place) {
         Some(frame) if !frame.starts_with("-") => {
             pen.put(" --ignore-label ");

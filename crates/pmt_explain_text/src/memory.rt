@@ -2,9 +2,8 @@
 
 use pmt_explain::CrashByte;
 use pmt_failures::RangeAfter;
-use pmt_model::OutOfMemory;
 use pmt_pen::Pen;
-use pmt_telling::{Bytes, Telling};
+use pmt_telling::{Bytes, Made, Telling};
 
 // The most rows of lost bytes that are shown of a range, and the most bytes of a row.
 const ROWS: usize = 8;
@@ -77,11 +76,7 @@ fn push_run(pen: &mut Pen, run: &[Cell], first: Cell, lost: u64) {
 }
 
 // The bytes of the range of the assertion after the crash.
-pub(crate) fn cells_of(
-    told: &Telling<'_>,
-    assertion: u64,
-    after: &RangeAfter,
-) -> Result<Vec<Cell>, OutOfMemory> {
+pub(crate) fn cells_of(told: &Telling<'_>, assertion: u64, after: &RangeAfter) -> Made<Vec<Cell>> {
     let range = Bytes::of(after.range.addr().get(), after.range.len());
     let last = last_stores(told, assertion, range)?;
     let mut cells = Vec::with_capacity(told.alloc, after.bytes.len())?;
@@ -97,11 +92,7 @@ pub(crate) fn cells_of(
 
 // The last store to each byte of the range by the event with this number, lowest byte first. It goes back from the event until it knows them
 // all.
-fn last_stores(
-    told: &Telling<'_>,
-    number: u64,
-    range: Bytes,
-) -> Result<Vec<Option<u64>>, OutOfMemory> {
+fn last_stores(told: &Telling<'_>, number: u64, range: Bytes) -> Made<Vec<Option<u64>>> {
     let mut left = range.end.saturating_sub(range.start) as usize;
     let mut stores = vec![in told.alloc; None; left]?;
     for before in (1..number).rev() {

@@ -4,46 +4,20 @@ use crate::asked_rows::{push_dropped, push_late, push_lost, push_overwritten};
 use crate::failures::push_claim;
 use crate::hints::push_head;
 use crate::left::push_left_head;
-use pmt_asked::{Choice, Kind, is_asked_for};
+use pmt_asked::{Kind, is_asked_for};
 use pmt_entries::Subject;
 use pmt_explanation::first;
 use pmt_failures::Unwritten;
-use pmt_model::{OutOfMemory, Range};
+use pmt_model::Range;
 use pmt_pen::Pen;
 use pmt_reasons::Cause;
-use pmt_telling::{Telling, pen_of, push_event, push_word, push_wrapped};
+use pmt_telling::{Made, Telling, pen_of, push_event, push_wrapped};
 
 // The columns before the further lines of a row.
 const FURTHER: u64 = 6;
 
-// Adds which findings are told, by the options that choose them.
-pub(crate) fn push_choice(pen: &mut Pen, choice: &Choice) {
-    pen.put("told below:");
-    if let Some(only) = choice.only {
-        pen.put(" --only ");
-        pen.put(only.name());
-    }
-    if let Some(thread) = choice.thread {
-        pen.fill(" --thread #", &[thread as u64]);
-    }
-    if let Some(range) = choice.range {
-        pen.fill(" --range @:#", &[range.addr, range.len]);
-    }
-    if let Some(event) = choice.from {
-        pen.fill(" --from #", &[event]);
-    }
-    if let Some(event) = choice.to {
-        pen.fill(" --to #", &[event]);
-    }
-    if let Some(label) = &choice.label {
-        pen.put(" --label ");
-        push_word(pen, label.as_str());
-    }
-    pen.put("\n");
-}
-
 // Adds a row for each thing that is asked for, kind by kind, or that there is none.
-pub(crate) fn push_rows(pen: &mut Pen, told: &Telling<'_>) -> Result<(), OutOfMemory> {
+pub(crate) fn push_rows(pen: &mut Pen, told: &Telling<'_>) -> Made<()> {
     let start = pen.len();
     push_failed(pen, told);
     push_lost(pen, told);
@@ -108,7 +82,7 @@ fn push_failed(pen: &mut Pen, told: &Telling<'_>) {
 }
 
 // Adds the hints, and the sites and paths that are saved one fence late.
-fn push_hints(pen: &mut Pen, told: &Telling<'_>) -> Result<(), OutOfMemory> {
+fn push_hints(pen: &mut Pen, told: &Telling<'_>) -> Made<()> {
     let explanation = told.explanation;
     let mut rows: Vec<Pen> = Vec::new(told.alloc);
     for hint in explanation.asked_hints.iter() {
@@ -124,7 +98,8 @@ fn push_hints(pen: &mut Pen, told: &Telling<'_>) -> Result<(), OutOfMemory> {
             Subject::Failure(_) | Subject::Loss(_) | Subject::Hint(_) => (None, false),
         };
         if let Some((place, first)) = place.and_then(|place| Some((place, place.first_left?))) {
-            if is_hint_asked(told, first) {
+            let choice = told.screen.choice;
+            if is_asked_for(told.trace, told.labels, choice, Kind::Hint, first) {
                 let mut row = row_of(told);
                 push_left_head(&mut row, told, place, is_path);
                 row.fill(", first event #", &[first]);
@@ -138,12 +113,6 @@ fn push_hints(pen: &mut Pen, told: &Telling<'_>) -> Result<(), OutOfMemory> {
     }
     push_left(pen, told, rows.len());
     Ok(())
-}
-
-// Whether hints of the event are asked for.
-fn is_hint_asked(told: &Telling<'_>, event: u64) -> bool {
-    let choice = told.screen.choice;
-    is_asked_for(told.trace, told.labels, choice, Kind::Hint, event)
 }
 
 // Adds the assertions on bytes that no store has written.

@@ -1,9 +1,8 @@
 //! The events that others go with: those of hints, and those that make a store safe.
 
 use pmt_hints::{Hint, HintKind};
-use pmt_model::OutOfMemory;
 use pmt_slices::{StorePart, store_story_of};
-use pmt_telling::{Bytes, NEAR, Telling};
+use pmt_telling::{Bytes, Made, NEAR, Telling, frame_at};
 
 // The most events that are looked at for the store that publishes.
 const FEW: u64 = 64;
@@ -95,23 +94,54 @@ pub(crate) struct Saving {
 }
 
 // What makes the store safe; nothing where it is not asked for, since it takes a look at each event after the store.
-pub(crate) fn saving_of(
-    told: &Telling<'_>,
-    store: u64,
-    is_asked: bool,
-) -> Result<Saving, OutOfMemory> {
-    let mut saving = Saving {
-        flush: None,
-        saves: None,
+pub(crate) fn saving_of(told: &Telling<'_>, store: u64, is_asked: bool) -> Made<Saving> {
+    let story = if is_asked {
+        store_story_of(told.alloc, told.trace, store)?
+    } else {
+        None
     };
-    if !is_asked {
-        return Ok(saving);
-    }
-    if let Some(story) = store_story_of(told.alloc, told.trace, store)? {
-        saving.flush = story.flush();
+    let saves = story.as_ref().and_then(|story| {
         let mut numbers = story.numbers().iter();
         let saves = numbers.find(|number| matches!(story.part(**number), StorePart::Saves));
-        saving.saves = saves.copied();
-    }
-    Ok(saving)
+        saves.copied()
+    });
+    Ok(Saving {
+        flush: story.and_then(|story| story.flush()),
+        saves,
+    })
+}
+
+// Whether the event is a flush of another line than the store's that does nothing, by its thread and of the same function or what it calls,
+// as far as the two innermost frames of their labels tell. The outermost frame of all is that of too many.
+pub(crate) fn is_stray(told: &Telling<'_>, store: u64, number: u64) -> bool {
+    let one = told.label(store).unwrap_or("");
+    let other = told.label(number).unwrap_or("");
+    let inner = if frame_at(one, 2).is_some() { 2 } else { 1 };
+    told.is_flush(number)
+        && is_idle(told, number)
+        && told.line(number) != told.line(store)
+        && told.thread(number) == told.thread(store)
+        && (0..inner).any(|depth| {
+            let function = function_at(one, depth);
+            let is_one = function == function_at(other, 0) || function == function_at(other, 1);
+            is_one && (!function.is_empty() || one.is_empty())
+        })
+}
+
+// What such a flush is to the store.
+pub(crate) const IN_VAIN: &str = "flushes another line, in vain";
+
+// Whether the flush does nothing: then its address may be wrong.
+fn is_idle(told: &Telling<'_>, flush: u64) -> bool {
+    let dropped = told.explanation.dropped.as_slice();
+    dropped
+        .binary_search_by_key(&flush, |dropped| dropped.event)
+        .is_ok()
+}
+
+// The function of the frame at this depth; nothing where there is none.
+fn function_at(label: &str, depth: usize) -> &str {
+    let frame = frame_at(label, depth).unwrap_or("");
+    let function = frame.split(' ').find(|word| !word.contains(":"));
+    function.unwrap_or("")
 }

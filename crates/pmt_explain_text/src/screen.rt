@@ -4,18 +4,19 @@ use crate::closing::push_closing;
 use crate::entries::{Shown, shown_entries};
 use crate::failures::failure_entry;
 use crate::in_full::push_failure_in_full;
-use crate::only::{push_choice, push_rows};
+use crate::only::push_rows;
 use crate::verdict::push_verdict;
+use crate::volatile::volatile_sites;
 use pmt_asked::Labels;
 use pmt_explanation::{Explanation, summary_of};
-use pmt_model::OutOfMemory;
 use pmt_pen::Pen;
 use pmt_sources::{SourcePlace, place_at, place_of};
 use pmt_telling::{
-    Screen, Telling, failure_of, has_threads, lines_of, pen_of, push_brief, push_frame_source,
-    push_full, push_text, push_wrapped, spot_of, tells_all,
+    Made, Screen, Telling, has_threads, lines_of, pen_of, push_brief, push_frame_source, push_full,
+    push_text, push_wrapped, spot_of,
 };
 use std::alloc::Global;
+use std::collections::HashSet;
 
 // So many lines are kept for what may be meant: the heading and one question.
 const KEPT: usize = 3;
@@ -33,10 +34,10 @@ pub fn text(
     explanation: &Explanation,
     labels: &Labels,
     screen: &Screen<'_>,
-) -> Result<Vec<u8>, OutOfMemory> {
-    let told = telling_of(alloc, explanation, labels, screen);
+) -> Made<Vec<u8>> {
+    let told = telling_of(alloc, explanation, labels, screen)?;
     let mut pen = pen_of(alloc, screen.lacking);
-    if failure_of(screen.choice).is_some() {
+    if screen.choice.failure().is_some() {
         push_full(&mut pen, &told, "", &failure_entry(&told, 0, true)?)?;
         push_failure_in_full(&mut pen, &told)?;
     } else {
@@ -52,25 +53,28 @@ fn telling_of<'a>(
     explanation: &'a Explanation,
     labels: &'a Labels,
     screen: &'a Screen<'a>,
-) -> Telling<'a> {
+) -> Made<Telling<'a>> {
     let trace = explanation.analysis.trace();
-    Telling {
+    let mut told = Telling {
         alloc,
         trace,
         explanation,
         labels,
         screen,
         has_threads: has_threads(trace),
-    }
+        volatile: HashSet::new(alloc),
+    };
+    told.volatile = volatile_sites(&told)?;
+    Ok(told)
 }
 
 // Adds the verdict, and entries with what stands below them; or rows of what is asked for.
-fn push_screen(pen: &mut Pen, told: &Telling<'_>) -> Result<(), OutOfMemory> {
+fn push_screen(pen: &mut Pen, told: &Telling<'_>) -> Made<()> {
     let counts = summary_of(told.explanation);
     let entries = shown_entries(told, false)?;
     push_verdict(pen, told, &counts, entries.first());
-    if !tells_all(told.screen.choice) {
-        push_choice(pen, told.screen.choice);
+    if !told.screen.choice.tells_all() {
+        pen.put("told below: what is asked for\n");
         return push_rows(pen, told);
     }
     let meant = shown_entries(told, true)?;
@@ -126,12 +130,7 @@ impl Body {
     }
 
     // Adds the first entry in full, and the next ones in full or in a line as long as there is room, with so many lines kept for others.
-    fn add_entries(
-        &mut self,
-        told: &Telling<'_>,
-        entries: &Shown<'_>,
-        kept: usize,
-    ) -> Result<(), OutOfMemory> {
+    fn add_entries(&mut self, told: &Telling<'_>, entries: &Shown<'_>, kept: usize) -> Made<()> {
         let mut done = 0usize;
         for entry in entries.entries.iter() {
             let mut rank = Pen::new(told.alloc);
@@ -192,8 +191,8 @@ pub fn source_places<'a>(
     explanation: &'a Explanation,
     labels: &'a Labels,
     screen: &'a Screen<'a>,
-) -> Result<Vec<SourcePlace<'a>>, OutOfMemory> {
-    let told = telling_of(alloc, explanation, labels, screen);
+) -> Made<Vec<SourcePlace<'a>>> {
+    let told = telling_of(alloc, explanation, labels, screen)?;
     let mut found = Vec::new(alloc);
     let mut pen = Pen::new(alloc);
     for are_meant in [false, true] {

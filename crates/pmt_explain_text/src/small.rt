@@ -1,22 +1,18 @@
 //! What does no harm, or is too rare to tell alone, in one sentence.
 
-use pmt_causes::Origin;
 use pmt_explanation::Summary;
-use pmt_fates::{LEAST_EVENTS, PlaceRow};
+use pmt_fates::LEAST_EVENTS;
 use pmt_hints::{Hint, HintKind};
-use pmt_model::OutOfMemory;
 use pmt_pen::Pen;
-use pmt_telling::{Telling, pen_of, push_comma, push_more, push_site, push_spot, push_wrapped};
+use pmt_telling::{
+    Made, Telling, pen_of, push_comma, push_more, push_spot, push_wrapped, site_frame,
+};
 
 // The most sites that are named.
 const NAMED: usize = 3;
 
 // Adds the small things, if there are some.
-pub(crate) fn push_small(
-    pen: &mut Pen,
-    told: &Telling<'_>,
-    counts: &Summary,
-) -> Result<(), OutOfMemory> {
+pub(crate) fn push_small(pen: &mut Pen, told: &Telling<'_>, counts: &Summary) -> Made<()> {
     let mut line = pen_of(told.alloc, "Small things: ");
     let start = line.len();
     push_hints(&mut line, told, HintKind::OpenAtStore)?;
@@ -31,7 +27,7 @@ pub(crate) fn push_small(
 }
 
 // Adds where the hints of this kind are that have fewer events than an entry, if there are some.
-fn push_hints(pen: &mut Pen, told: &Telling<'_>, kind: HintKind) -> Result<(), OutOfMemory> {
+fn push_hints(pen: &mut Pen, told: &Telling<'_>, kind: HintKind) -> Made<()> {
     let (what, enough) = match kind {
         HintKind::OpenAtStore => ("a flush unfenced at the next store, at ", LEAST_EVENTS),
         _ => (
@@ -70,30 +66,18 @@ fn push_useless(pen: &mut Pen, told: &Telling<'_>, counts: &Summary) {
     };
     push_break(pen, "useless: ");
     told.say(pen, form, &numbers);
-    let Some(site) = idlest_site(told) else {
-        return;
-    };
-    if let Origin::Label(_) = site {
-        pen.put(", most at ");
-        push_site(pen, told, site);
-    }
-}
-
-// The site with most flushes and fences that do nothing; of several with as many the first one.
-fn idlest_site(told: &Telling<'_>) -> Option<Origin> {
-    let rows = told.explanation.places.iter();
-    let most = rows.fold(0u64, |most, row| most.max(idle_of(row)));
+    let (mut most, mut site) = (0u64, None);
     for row in told.explanation.places.iter() {
-        if idle_of(row) == most {
-            return Some(row.place);
+        let idle = row.idle_flushes.saturating_add(row.idle_fences);
+        if most < idle {
+            most = idle;
+            site = site_frame(told, row.place);
         }
     }
-    None
-}
-
-// How many of its flushes and fences do nothing.
-fn idle_of(row: &PlaceRow) -> u64 {
-    row.idle_flushes.saturating_add(row.idle_fences)
+    if let Some(frame) = site {
+        pen.put(", most at ");
+        pen.put(frame);
+    }
 }
 
 // Adds the next small thing's first words.

@@ -1,7 +1,7 @@
 //! The verdict in a sentence.
 
 use pmt_entries::{Verdict, Weight, weight_of_site};
-use pmt_explanation::Summary;
+use pmt_explanation::{Summary, per_cent};
 use pmt_pen::Pen;
 use pmt_telling::{Telling, Told, pen_of, push_text, push_wrapped};
 
@@ -57,6 +57,8 @@ fn word_of(told: &Telling<'_>, verdict: Verdict) -> &'static str {
     }
 }
 
+const MANY: &str = ", many in fields that may be volatile (below); others first at ";
+
 // Adds how many assertions a crash can break, and the first of them.
 fn push_broken(pen: &mut Pen, told: &Telling<'_>, counts: &Summary) {
     let first = told.explanation.failing.first().copied().unwrap_or(0);
@@ -76,16 +78,13 @@ fn push_found(pen: &mut Pen, told: &Telling<'_>, counts: &Summary, first: Option
     if is_lost {
         push_never_saved(pen, told, counts, lost);
     }
-    let found = most_weighing(told);
-    let form = match (verdict, found) {
-        (Verdict::Lost, 1) => ", at ",
-        (Verdict::Lost, _) => ", first at ",
-        (Verdict::Suspect, 1) => "one likely bug, ",
-        (Verdict::Suspect, _) => "% likely bugs, first at ",
-        (_, 1) => "one thing to look at, ",
-        _ => "% things to look at, first at ",
-    };
-    told.say(pen, form, &[found]);
+    pen.put(match first {
+        Some(_) if is_lost && !told.volatile.is_empty() => MANY,
+        Some(_) if is_lost => ", first at ",
+        Some(_) => "look at ",
+        None if is_lost => ", in fields that may be volatile (below)",
+        None => "what is saved late may be volatile (below)",
+    });
     if let Some(entry) = first {
         push_text(pen, &entry.site);
         if !is_lost {
@@ -108,14 +107,6 @@ fn push_found(pen: &mut Pen, told: &Telling<'_>, counts: &Summary, first: Option
     }
 }
 
-// How many entries weigh as much as the first one.
-fn most_weighing(told: &Telling<'_>) -> u64 {
-    let entries = told.explanation.entries.entries.as_slice();
-    let weight = entries.first().map(|entry| entry.weight);
-    let most = entries.iter().filter(|entry| Some(entry.weight) == weight);
-    most.count() as u64
-}
-
 // How many stores are never saved at sites that do not stand apart.
 fn lost_of(told: &Telling<'_>) -> u64 {
     let sites = told.explanation.entries.sites.iter();
@@ -126,12 +117,19 @@ fn lost_of(told: &Telling<'_>) -> u64 {
 
 // Adds that so many stores are never saved.
 fn push_never_saved(pen: &mut Pen, told: &Telling<'_>, counts: &Summary, lost: u64) {
-    let form = match (counts.stores, lost) {
-        (1, _) => "the store is never saved",
-        (_, 1) => "% of % stores is never saved",
-        _ => "% of % stores are never saved",
-    };
-    told.say(pen, form, &[lost, counts.stores]);
+    if counts.stores == 1 {
+        pen.put("the store");
+    } else {
+        told.say(pen, "% of % stores", &[lost, counts.stores]);
+    }
+    if !told.volatile.is_empty() {
+        pen.fill(" (# %)", &[per_cent(lost, counts.stores)]);
+    }
+    pen.put(if lost == 1 {
+        " is never saved"
+    } else {
+        " are never saved"
+    });
 }
 
 // Adds that no crash breaks an assertion, and that the stores are saved.

@@ -1,11 +1,11 @@
 //! An entry as lines: in full, and in one.
 
 use crate::rows::{WIDTH, push_line, push_wrapped, width_of};
+use crate::sites::spot_of;
 use crate::story::{push_frame_source, push_story};
-use crate::telling::Telling;
+use crate::telling::{Made, Telling};
 use crate::told::Told;
 use crate::words::{pen_of, push_text};
-use pmt_model::OutOfMemory;
 use pmt_pen::Pen;
 
 // The columns before the parts of an entry, and before their further lines.
@@ -17,12 +17,7 @@ const FURTHER: u64 = 8;
 ///
 /// # Errors
 /// Where memory was refused.
-pub fn push_full(
-    pen: &mut Pen,
-    told: &Telling<'_>,
-    rank: &str,
-    entry: &Told<'_>,
-) -> Result<(), OutOfMemory> {
+pub fn push_full(pen: &mut Pen, told: &Telling<'_>, rank: &str, entry: &Told<'_>) -> Made<()> {
     push_wrapped(pen, &head_of(rank, entry, true), INSIDE);
     for aside in entry.asides.iter() {
         push_part(pen, "", aside);
@@ -38,11 +33,19 @@ pub fn push_full(
     Ok(())
 }
 
-/// Adds the entry as one line, behind its rank: without why it is so if there is no room for that.
+/// Adds the entry as one line, behind its rank: without why it is so if there is no room for that, and then with the site before what names none.
 pub fn push_brief(pen: &mut Pen, rank: &str, entry: &Told<'_>) {
     let line = head_of(rank, entry, true);
-    let has_room = width_of(line.as_str()) <= WIDTH;
-    push_line(pen, &head_of(rank, entry, has_room));
+    if width_of(line.as_str()) <= WIDTH {
+        return push_line(pen, &line);
+    }
+    let mut start = pen_of(pen.alloc(), rank);
+    let spot = spot_of(entry.site.as_str());
+    if !entry.what.as_str().contains(spot) {
+        start.put(spot);
+        start.put(": ");
+    }
+    push_line(pen, &head_of(start.as_str(), entry, false));
 }
 
 // What the entry begins with, with the reason or without.

@@ -19,6 +19,6 @@ pub use crate::sites::{
     frame_at, frames_up_to, push_call, push_site, push_sites, push_spot, site_frame, spot_of,
 };
 pub use crate::story::push_frame_source;
-pub use crate::telling::{Bytes, NEAR, Screen, Telling, failure_of, has_threads, tells_all};
+pub use crate::telling::{Bytes, Made, NEAR, Screen, Telling, has_threads};
 pub use crate::told::{Crashes, StoryRow, Told};
 pub use crate::words::{named_of, pen_of, push_comma, push_lines, push_more, push_text};

@@ -2,16 +2,12 @@
 
 use crate::rows::{WIDTH, push_column, push_line, push_spaces, width_of};
 use crate::sites::{site_frame, spot_of};
-use crate::telling::Telling;
+use crate::telling::{Made, Telling};
 use crate::told::{StoryRow, Told};
-use crate::words::push_text;
-use pmt_model::OutOfMemory;
+use crate::words::{pen_of, push_text};
 use pmt_pen::Pen;
 use pmt_sources::{SourceLine, SourcePlace, found_line, place_of, place_under};
 use pmt_text::word_of;
-
-// The columns before the events.
-const INSIDE: u64 = 4;
 
 // The columns before a line of source that stands alone.
 const ALONE: u64 = 6;
@@ -26,11 +22,7 @@ struct Columns {
 }
 
 // Adds the rows of the entry by rising event; the line of source of the edited event stands whole.
-pub(crate) fn push_story(
-    pen: &mut Pen,
-    told: &Telling<'_>,
-    entry: &Told<'_>,
-) -> Result<(), OutOfMemory> {
+pub(crate) fn push_story(pen: &mut Pen, told: &Telling<'_>, entry: &Told<'_>) -> Made<()> {
     let mut rows: Vec<&StoryRow> = entry.story.iter().collect(told.alloc)?;
     rows.sort_by_key(|row| row.event)?;
     rows.dedup_by_key(|row| row.event);
@@ -88,13 +80,9 @@ fn push_row(
     source: Option<&SourceLine<'_>>,
     is_whole: bool,
 ) {
-    let mut line = Pen::new(told.alloc);
+    let mut line = pen_of(told.alloc, "    ");
     let number = told.said("# ", &[row.event]);
-    let before = columns
-        .number
-        .saturating_sub(number.len())
-        .saturating_add(INSIDE);
-    push_spaces(&mut line, before);
+    push_spaces(&mut line, columns.number.saturating_sub(number.len()));
     push_text(&mut line, &number);
     let event = event_of(told, row.event);
     line.share(&event);
@@ -119,11 +107,12 @@ fn push_row(
     let used = width_of(line.as_str()).saturating_add(width_of(found.text.trim()));
     let room = WIDTH.saturating_sub(used.saturating_add(3));
     let short = spot_of(frame);
-    line.put(if width_of(frame) <= room {
+    let name = if width_of(frame) <= room {
         frame
     } else {
         short
-    });
+    };
+    line.put(name);
     let is_below = is_whole && width_of(short) > room;
     if !is_below {
         line.put(" | ");

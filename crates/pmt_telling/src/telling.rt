@@ -1,12 +1,16 @@
 //! What each part of the text for people is told of.
 
 use crate::sites::frame_at;
-use pmt_asked::{Choice, Ignored, Kind, Labels};
+use pmt_asked::{Choice, Ignored, Labels};
 use pmt_causes::{Origin, origin_of};
 use pmt_explanation::Explanation;
-use pmt_model::{Op, Trace, line_of};
+use pmt_model::{Op, OutOfMemory, Trace, line_of};
 use pmt_sources::Sources;
 use std::alloc::Global;
+use std::collections::HashSet;
+
+/// What is made, if memory was not refused.
+pub type Made<T> = Result<T, OutOfMemory>;
 
 /// How long the text is, and what the commands that it names are given.
 #[derive(Drop)]
@@ -46,6 +50,8 @@ pub struct Telling<'a> {
     pub screen: &'a Screen<'a>,
     /// Whether several threads have events.
     pub has_threads: bool,
+    /// The sites of fields that are told apart, since they may be volatile.
+    pub volatile: HashSet<Origin>,
 }
 
 /// Whether several threads have events in the trace.
@@ -211,22 +217,4 @@ impl Bytes {
     pub fn meets(self, other: Bytes) -> bool {
         self.start < other.end && other.start < self.end
     }
-}
-
-/// Whether the words choose nothing, so that the whole trace is told of.
-pub fn tells_all(choice: &Choice) -> bool {
-    choice.only.is_none()
-        && choice.thread.is_none()
-        && choice.range.is_none()
-        && choice.from.is_none()
-        && choice.to.is_none()
-        && choice.label.is_none()
-}
-
-/// The event of the failed assertion that is told alone, if one is.
-pub fn failure_of(choice: &Choice) -> Option<u64> {
-    let is_failure = matches!(choice.only, Some(Kind::Failure));
-    let is_all = choice.thread.is_none() && choice.range.is_none() && choice.label.is_none();
-    let is_one = is_failure && is_all && choice.from == choice.to;
-    choice.from.filter(|_| is_one)
 }
