@@ -212,10 +212,8 @@ class Replay:
         """The answer, on standard output."""
         lines = [f"{self.trace.path}: {self.stopped_words()}; this is of the images until then"] if stopped else []
         lines += summary(self.trace, self.places, self.options, self.counts, seconds)
-        lines += self.texts.rows()
         failures = [self.failures[number] for number in sorted(self.failures)]
-        if failures:
-            lines += ["", *table(self.trace, failures)]
+        lines += ["", *table(self.trace, failures)] if failures else self.texts.rows()
         print(shown(lines, sys.stdout), flush=True)
 
     def clean_up(self):

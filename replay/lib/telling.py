@@ -73,7 +73,7 @@ def rows_of(trace, number, results):
 
 
 class Texts:
-    """What the checker wrote last where it did not fail: texts that differ tell images apart, though each is taken."""
+    """What the checker wrote last, if it never failed: texts that differ tell images apart, though each is taken."""
 
     def __init__(self):
         self.images = {}

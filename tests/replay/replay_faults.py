@@ -87,12 +87,14 @@ class Faults(Replayed):
             self.expect(f"{script}: status", (status, faults, counts_of(told)) == (0, "", (6, 4, 0, 0)), told + faults)
             right = (differs in told) == bool(texts) and all(text in told for text in texts)
             self.expect(f"{script}: the texts", right, told)
-        # those of an earlier run count too, and a failure is no text
-        kept, words = self.folder / "texts", [trace, *of_shell('od -An -tu1 -N1 "$1"; [ "$(od -An -tu1 -j64 -N1 "$1")" -eq 0 ]')]
+        # those of an earlier run count too
+        kept, words = self.folder / "texts", [trace, *of_shell('od -An -tu1 -N1 "$1"')]
         for number in range(2):
             status, told, _ = self.replay(["--keep", kept, "--jobs", "1", *words])
-            one_each = told.count("1 image, the first is image ") == 2
-            self.expect(f"texts that are kept, run {number}", status == 1 and differs in told and one_each, told)
+            two_each = told.count("2 images, the first is image ") == 2
+            self.expect(f"texts that are kept, run {number}", status == 0 and differs in told and two_each, told)
+        status, told, _ = self.replay([trace, *of_shell('od -An -tu1 -N1 "$1"; [ "$(od -An -tu1 -j64 -N1 "$1")" -eq 0 ]')])
+        self.expect("no texts beside failures", status == 1 and differs not in told, told)
 
     def test_groups(self):
         """Crashes that keep a store of one site and lose one of another before it are one group; those that keep all up to their last one are by
