@@ -37,7 +37,9 @@ pub fn run_slice<O: Opener, I: Read, W: Write>(
     let text = write_trace(alloc, &slice.trace)?;
     match words.out {
         Some(name) => write_beside(alloc, words, files, name, text, &slice.numbers, &labels)?,
-        None => write_answer(alloc, text.as_slice(), out)?,
+        None => {
+            write_answer(alloc, text.as_slice(), out)?;
+        }
     }
     Ok(0)
 }

@@ -1,6 +1,10 @@
 //! `explain`: what is wrong in a trace, why, and what to do.
-ghost use Rattle.std.specs.Prelude.{◌≤◌, IfOk};
+ghost use Rattle.std.specs.Prelude.{◌≡◌, ◌≤◌, [], not, if◌then◌else◌, None, IfOk};
+ghost use Rattle.pmt_report.specs.Runs.{coming_from_reader};
 ghost use Rattle.pmt_explain_run.specs.Sweeping.{IsSweptTrace};
+ghost use Rattle.pmt_explain_json.specs.Lines.{IsJsonText};
+ghost use Rattle.command_requests.specs.declared.explaining.Form.TheVariants.{Json};
+ghost use Rattle.command_explain.specs.Telling.{IsToldOf, TellsJson, TellsKnown};
 
 use crate::colors::colored;
 use crate::page_of;
@@ -8,11 +12,11 @@ use crate::sources::sources_of;
 use crate::taking::{Taken, taken_of};
 use crate::told::Beside;
 use command_inputs::{
-    Fault, Lacked, Lacking, Opener, labels_of, lacking_of, no_failure, read_file, read_ignored,
-    write_named,
+    Fault, Lacked, Lacking, Opener, Sent, labels_of, lacking_of, no_failure, read_file,
+    read_ignored, write_named,
 };
 use command_requests::{Color, ExplainWords, Form};
-use pmt_asked::Labels;
+use pmt_asked::{Ignored, Labels};
 use pmt_explain_json::{Lack, json_text};
 use pmt_explain_run::explained;
 use pmt_explain_text::{Screen, source_places, text};
@@ -27,7 +31,8 @@ use std::thread::Threads;
 const ROWS: usize = 24;
 
 /// Explains the trace of the file or of `input`, and writes what is asked for to the file that is named, or to `out`, which shows colors
-/// or not. The files of what is ignored and of labels are read and judged first. The status is that of the verdict.
+/// or not. The files of what is ignored and of labels are read and judged first. The status is that of the verdict; beside it stands what
+/// became of the answer.
 ///
 /// # Errors
 /// A usage fault, where the words want labels and there are none; the fault of a file of what is ignored, of the labels, of the trace, that no
@@ -41,11 +46,17 @@ pub fn run_explain<T: Threads + Sync, O: Opener, I: Read, W: Write>(
     input: &mut I,
     out: &mut W,
     colors: bool,
-) -> Result<u8, Fault>
-    ensures { IfOk result (λ status. status ≤ 1) }
+) -> Result<(u8, Sent), Fault>
+    ensures few { IfOk result (λ told. told.0 ≤ 1) }
+    ensures json { words.old.file ≡ None → words.old.out ≡ None → words.old.form ≡ Json → IfOk result (TellsJson words.old (coming_from_reader (I.remaining input.old)) (W.contents out.old) (W.contents out.new)) }
 {
     judge_labels(alloc, words)?;
-    add_ignored(alloc, files, words)?;
+    add_ignored(
+        alloc,
+        files,
+        words.ignore_files.as_slice(),
+        &mut words.options.ignored,
+    )?;
     let labels = labels_of(alloc, files, words.labels)?;
     let taken = taken_of(alloc, files, words, input)?;
     let lacking = lacking_of(alloc, files, words.file)?;
@@ -56,7 +67,8 @@ pub fn run_explain<T: Threads + Sync, O: Opener, I: Read, W: Write>(
         lacks,
         colors: is_colored(words, colors),
     };
-    explain_taken(rt, alloc, files, words, &known, taken, out)
+    let told = explain_taken(rt, alloc, files, words, &known, taken, out)?;
+    Ok(told)
 }
 
 // That there are labels, where the words want some.
@@ -81,15 +93,14 @@ fn judge_labels(alloc: Global, words: &ExplainWords<'_>) -> Result<(), Fault> {
 fn add_ignored<O: Opener>(
     alloc: Global,
     files: &O,
-    words: &mut ExplainWords<'_>,
-) -> Result<(), Fault> {
-    for index in 0..words.ignore_files.len() {
-        let name = match words.ignore_files.get(index) {
-            Some(name) => *name,
-            None => break,
-        };
+    names: &[&str],
+    ignored: &mut Ignored,
+) -> Result<(), Fault>
+    ensures { names.now ≡ [] → ignored.new ≡ ignored.old }
+{
+    for name in names {
         let bytes = read_file(alloc, files, name)?;
-        read_ignored(alloc, name, bytes.as_slice(), &mut words.options.ignored)?;
+        read_ignored(alloc, name, bytes.as_slice(), ignored)?;
     }
     Ok(())
 }
@@ -107,7 +118,9 @@ struct Known {
 }
 
 // What the trace lacks, as JSON has it.
-fn lacks_of(alloc: Global, all: &[Lacked]) -> Result<Vec<Lack>, OutOfMemory> {
+fn lacks_of(alloc: Global, all: &[Lacked]) -> Result<Vec<Lack>, OutOfMemory>
+    ensures { all.now ≡ [] → IfOk result (λ lacks. lacks.items ≡ []) }
+{
     let mut lacks = Vec::with_capacity(alloc, all.len())?;
     for lacked in all {
         let kind = String::from_str(alloc, lacked.kind.as_str())?;
@@ -139,21 +152,16 @@ fn explain_taken<T: Threads + Sync, O: Opener, W: Write>(
     known: &Known,
     taken: Taken,
     out: &mut W,
-) -> Result<u8, Fault>
+) -> Result<(u8, Sent), Fault>
     requires { IsSweptTrace taken.swept }
-    ensures { IfOk result (λ status. status ≤ 1) }
+    ensures few { IfOk result (λ told. told.0 ≤ 1) }
+    ensures json { words.now.out ≡ None → words.now.form ≡ Json → IfOk result (TellsKnown taken.swept.trace known.now words.now (W.contents out.old) (W.contents out.new)) }
 {
     let Taken { swept, text } = taken;
     let mut explanation = explained(rt, alloc, swept, &known.labels, &words.options)?;
-    tell(
-        alloc,
-        files,
-        words,
-        known,
-        text.as_slice(),
-        &mut explanation,
-        out,
-    )
+    let text = text.as_slice();
+    let told = tell(alloc, files, words, known, text, &mut explanation, out)?;
+    Ok(told)
 }
 
 // Writes what is asked for of the explained trace with this text.
@@ -165,19 +173,24 @@ fn tell<O: Opener, W: Write>(
     bytes: &[u8],
     explanation: &mut Explanation,
     out: &mut W,
-) -> Result<u8, Fault>
-    ensures { IfOk result (λ status. status ≤ 1) }
+) -> Result<(u8, Sent), Fault>
+    ensures few { IfOk result (λ told. told.0 ≤ 1) }
+    ensures json { words.now.out ≡ None → words.now.form ≡ Json → IfOk result (IsToldOf explanation.old known.now.labels known.now.lacks.items (not known.now.lacking.knows_losses) words.now (W.contents out.old) (W.contents out.new)) }
 {
     judge_failure(alloc, explanation, words.failure)?;
-    let status = if status_of(explanation, !known.lacking.knows_losses, words.is_strict) {
-        1
-    } else {
-        0
-    };
+    let fails = status_of(explanation, !known.lacking.knows_losses, words.is_strict);
     let answer = answer_of(alloc, files, explanation, known, words, bytes)?;
     let read = read_files(alloc, words)?;
-    write_named(alloc, files, words.out, read.as_slice(), answer, out)?;
-    Ok(status)
+    let sent = write_named(alloc, files, words.out, read.as_slice(), answer, out)?;
+    Ok((status_for(fails), sent))
+}
+
+// The status of a verdict that fails, or of another one.
+fn status_for(fails: bool) -> u8
+    ensures status { result ≡ (if fails then 1 else 0) }
+    ensures few { result ≤ 1 }
+{
+    if fails { 1 } else { 0 }
 }
 
 // The files that are read, where they are named.
@@ -217,7 +230,9 @@ fn answer_of<O: Opener>(
     known: &Known,
     words: &ExplainWords<'_>,
     bytes: &[u8],
-) -> Result<Vec<u8>, Fault> {
+) -> Result<Vec<u8>, Fault>
+    ensures { words.now.form ≡ Json → IfOk result (λ text. IsJsonText explanation.old known.now.labels words.now.options.choice known.now.lacks.items text.items) }
+{
     let labels = &known.labels;
     match words.form {
         Form::Text => {

@@ -1,5 +1,7 @@
 //! The trace that is explained.
-ghost use Rattle.std.specs.Prelude.{IfOk};
+ghost use Rattle.std.specs.Prelude.{◌≡◌, None, IfOk};
+ghost use Rattle.pmt_text.specs.Coming.{ComesWhole};
+ghost use Rattle.pmt_report.specs.Runs.{coming_from_reader};
 ghost use Rattle.pmt_explain_run.specs.Sweeping.{IsSweptTrace};
 
 use command_inputs::{
@@ -29,7 +31,8 @@ pub(crate) fn taken_of<O: Opener, I: Read>(
     words: &ExplainWords<'_>,
     input: &mut I,
 ) -> Result<Taken, Fault>
-    ensures { IfOk result (λ taken. IsSweptTrace taken.swept) }
+    ensures right { IfOk result (λ taken. IsSweptTrace taken.swept) }
+    ensures whole { words.now.file ≡ None → IfOk result (λ taken. ComesWhole (coming_from_reader (I.remaining input.old)) taken.swept.trace) }
 {
     match words.file {
         Some(name) => {
@@ -46,7 +49,8 @@ fn take_reader<R: Read + Drop>(
     words: &ExplainWords<'_>,
     reader: R,
 ) -> Result<Taken, Fault>
-    ensures { IfOk result (λ taken. IsSweptTrace taken.swept) }
+    ensures right { IfOk result (λ taken. IsSweptTrace taken.swept) }
+    ensures whole { IfOk result (λ taken. ComesWhole (coming_from_reader (R.remaining reader)) taken.swept.trace) }
 {
     let reader = counted_reader(alloc, reader, recalls_for(words.form))?;
     let mut source = TextSource::new(alloc, reader);

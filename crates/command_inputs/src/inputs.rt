@@ -1,7 +1,8 @@
 //! The inputs of a command: named files and standard input, and what is told of one that is refused.
 
-ghost use Rattle.std.specs.Prelude.{◌≡◌, None, IfOk, IsOk};
+ghost use Rattle.std.specs.Prelude.{◌≡◌, ℕ, None, IfOk, IsOk};
 ghost use Rattle.pmt_text.specs.Coming.{ComesWhole};
+ghost use Rattle.pmt_asked.specs.Labelling.{label_of};
 ghost use Rattle.pmt_report.specs.Runs.{coming_from_reader};
 
 use crate::buffering::counted_reader;
@@ -62,7 +63,8 @@ fn read_trace<R: Read + Drop>(alloc: Global, input: Input<'_>, reader: R) -> Res
 /// # Errors
 /// The fault of the file, or that of its first faulty line; `OutOfMemory`.
 pub fn labels_of<O: Opener>(alloc: Global, files: &O, name: Option<&str>) -> Result<Labels, Fault>
-    ensures { name.entry ≡ None → IsOk result }
+    ensures read { name.entry ≡ None → IsOk result }
+    ensures none { name.entry ≡ None → IfOk result (λ labels. (event : ℕ) → label_of labels event ≡ None) }
 {
     match name {
         Some(name) => {

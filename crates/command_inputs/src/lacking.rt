@@ -1,4 +1,5 @@
 //! What a trace lacks, by the files that a recorder writes beside it.
+ghost use Rattle.std.specs.Prelude.{◌≡◌, [], true, None, IfOk};
 
 use crate::bytes::has_control;
 use crate::cuts::{cut_of, read_standing};
@@ -43,26 +44,24 @@ pub struct Lacking {
 ///
 /// # Errors
 /// The fault of the first of these files that can't be read, or of its first line that is refused; `OutOfMemory`.
-pub fn lacking_of<O: Opener>(
-    alloc: Global,
-    files: &O,
-    file: Option<&str>,
-) -> Result<Lacking, Fault> {
+pub fn lacking_of<O: Opener>(alloc: Global, files: &O, file: Option<&str>) -> Result<Lacking, Fault>
+    ensures { file.entry ≡ None → IfOk result (λ x. (x.all.items ≡ []) × (x.knows_losses ≡ true)) }
+{
     let mut lacking = Lacking {
         all: Vec::new(alloc),
         told: String::new(alloc),
         knows_verdicts: true,
         knows_losses: true,
     };
+    let Some(name) = file else {
+        return Ok(lacking);
+    };
     if let Some(cut) = cut_of(alloc, files, file)? {
         push_cut(alloc, &mut lacking.told, &cut)?;
         push_lacked(alloc, &mut lacking.all, "cut", cut.event, cut.why.as_str())?;
         lacking.knows_losses = false;
     }
-    let Some(file) = file else {
-        return Ok(lacking);
-    };
-    let name = format!(in alloc; "{file}.missing")?;
+    let name = format!(in alloc; "{name}.missing")?;
     if let Some(text) = read_standing(alloc, files, name.as_str())? {
         add_missing(alloc, name.as_str(), text.as_slice(), &mut lacking)?;
     }

@@ -46,4 +46,4 @@ pub use crate::refused::split_line;
 pub use crate::shell::shell_word;
 pub use crate::source_text::shown_source;
 pub use crate::sources::{Places, SourceFolder, SourceText, Wanted};
-pub use crate::writing::write_answer;
+pub use crate::writing::{Sent, write_answer};

@@ -1,9 +1,12 @@
 //! The files that are written: all of them, or none.
 
+ghost use Rattle.std.specs.Prelude.{◌≡◌, None, IfOk};
+ghost use Rattle.command_inputs.specs.Writing.{Sends};
+
 use crate::fault::Fault;
 use crate::opener::{OpenError, Opener};
 use crate::reading::system_fault;
-use crate::writing::write_answer;
+use crate::writing::{Sent, write_answer, write_flushed};
 use std::alloc::Global;
 use std::io::Write;
 
@@ -64,7 +67,9 @@ pub fn write_named<O: Opener, W: Write>(
     read: &[Option<&str>],
     answer: Vec<u8>,
     out: &mut W,
-) -> Result<(), Fault> {
+) -> Result<Sent, Fault>
+    ensures { name.entry ≡ None → IfOk result (Sends (W.contents out.old) (W.contents out.new) answer.items) }
+{
     let Some(name) = name else {
         return write_answer(alloc, answer.as_slice(), out);
     };
@@ -73,7 +78,8 @@ pub fn write_named<O: Opener, W: Write>(
     for input in read {
         check_apart(alloc, files, outputs.as_slice(), *input)?;
     }
-    write_outputs(alloc, files, outputs.as_slice())
+    write_outputs(alloc, files, outputs.as_slice())?;
+    Ok(Sent::Whole)
 }
 
 /// Writes the files.
@@ -94,11 +100,7 @@ pub fn write_outputs<O: Opener>(alloc: Global, files: &O, outputs: &[Output]) ->
 fn write_output<O: Opener>(alloc: Global, files: &O, output: &Output) -> Result<(), Fault> {
     let name = output.name.as_str();
     let mut file = created(alloc, files, name, "")?;
-    let written = match file.write_all(output.text.as_slice()) {
-        Ok(()) => file.flush(),
-        Err(error) => Err(error),
-    };
-    match written {
+    match write_flushed(output.text.as_slice(), &mut file) {
         Ok(()) => Ok(()),
         Err(error) => {
             files.remove(name);

@@ -1,14 +1,15 @@
 //! Writing an answer whole.
 
-ghost use Rattle.std.specs.Prelude.{◌-◌, ◌<◌, ◌^◌};
+ghost use Rattle.std.specs.Prelude.{◌-◌, ◌<◌, ◌^◌, IfOk, OnOk};
+ghost use Rattle.std.specs.Io.KnownBytes.{Appends};
 ghost use Rattle.pmt_text.specs.Counting.{failure_count, inner_device};
-ghost use Rattle.command_inputs.specs.Writing.{WritesFirst};
+ghost use Rattle.command_inputs.specs.Writing.{Sends, WritesFirst};
 
 use crate::fault::Fault;
 use crate::reading::system_fault;
 use pmt_text::{Counted, write_all_counted};
 use std::alloc::Global;
-use std::io::{ErrorKind, Write};
+use std::io::{self, ErrorKind, Write};
 
 /// Writes the answer, and then flushes once.
 ///
@@ -27,19 +28,37 @@ pub(crate) fn write_whole<W: Write>(writer: &mut Counted<W>, answer: &[u8]) -> R
     }
 }
 
-/// Writes the answer, and then flushes once. A pipe whose reader has gone wants no more: that is no fault.
+/// What became of an answer.
+#[derive(Clone, Copy)]
+pub enum Sent {
+    /// It is out, whole.
+    Whole,
+    /// The reader of the pipe has gone, and wants no more: that is no fault.
+    ReaderGone,
+}
+
+/// Writes the answer, and then flushes once.
 ///
 /// # Errors
 /// A fault that says why it was not written, where a write or the flush failed: the first bytes of the answer may be out then.
 /// `OutOfMemory` where memory was refused to that fault.
-pub fn write_answer<W: Write>(alloc: Global, answer: &[u8], out: &mut W) -> Result<(), Fault> {
-    let written = match out.write_all(answer) {
-        Ok(()) => out.flush(),
-        Err(error) => Err(error),
-    };
-    match written {
-        Ok(()) => Ok(()),
-        Err(error) if error.kind() == ErrorKind::BrokenPipe => Ok(()),
+pub fn write_answer<W: Write>(alloc: Global, answer: &[u8], out: &mut W) -> Result<Sent, Fault>
+    ensures { IfOk result (Sends (W.contents out.old) (W.contents out.new) answer.now) }
+{
+    match write_flushed(answer, out) {
+        Ok(()) => Ok(Sent::Whole),
+        Err(error) if error.kind() == ErrorKind::BrokenPipe => Ok(Sent::ReaderGone),
         Err(error) => Err(system_fault(alloc, "cannot write", "the answer", error)),
     }
+}
+
+/// Writes the text, and then flushes once.
+///
+/// # Errors
+/// The writer's own.
+pub(crate) fn write_flushed<W: Write>(text: &[u8], out: &mut W) -> io::Result<()>
+    ensures { OnOk result (Appends (W.contents out.old) (W.contents out.new) text.now) }
+{
+    out.write_all(text)?;
+    out.flush()
 }

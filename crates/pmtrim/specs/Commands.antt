@@ -1,5 +1,5 @@
 -- What a command ends with, by the bytes that come to it: the status, and what is out.
-use Rattle.std.specs.Prelude.{◌≡◌, ℕ, ◌⊎◌, Bool, true, false, List, length, take, Option, None, Result, Ok, Err, MatchResult}
+use Rattle.std.specs.Prelude.{◌≡◌, ℕ, ◌⊎◌, Bool, true, false, List, length, take, Option, None, Result, Ok, Err, IfOk, MatchResult}
 use Rattle.std.specs.Io.KnownBytes.{Appends, Keeps}
 use Rattle.pmt_model.specs.declared.event.Op.{Op}
 use Rattle.pmt_model.specs.Formats.{first_version}
@@ -19,8 +19,11 @@ use Rattle.command_requests.specs.declared.request.Request.{Request}
 use Rattle.command_requests.specs.declared.request.Request.TheVariants as asked
 use Rattle.command_requests.specs.declared.request.Run.{Run}
 use Rattle.command_requests.specs.declared.request.Run.TheVariants as runs
+use Rattle.command_requests.specs.declared.explaining.Form.TheVariants.{Json}
 use Rattle.command_inputs.specs.declared.fault.Fault.{Fault}
+use Rattle.command_inputs.specs.declared.writing.Sent.{Sent}
 use Rattle.command_inputs.specs.Faults.{IsToldAs, fault_status}
+use Rattle.command_explain.specs.Telling.{TellsJson}
 
 -- The status that a command ends with.
 abbrev pub end_status : Result ℕ Fault → ℕ
@@ -84,15 +87,17 @@ Records count old new (Err fault) = Keeps old new ⊎ ((text : List ℕ) × (wri
 
 -- ---- Of a request
 
--- What is out, and the status, where these are the bytes of standard input, which is read. Of other commands nothing is said here.
-abbrev pub Answers : Request → Option (List ℕ) → Option (List ℕ) → Option (List ℕ) → ℕ → Type 0
-Answers (asked.Run words) bytes old new status = words.file ≡ None → EndsRun words.run (coming_from_reader bytes) old new status
-Answers (asked.Show text) bytes old new status = Unit {0}
-Answers (asked.Explain words) bytes old new status = Unit {0}
-Answers (asked.Draw drawing) bytes old new status = Unit {0}
-Answers (asked.Image words) bytes old new status = Unit {0}
-Answers (asked.ImageList words) bytes old new status = Unit {0}
-Answers (asked.Slice words) bytes old new status = Unit {0}
-Answers (asked.Stat words) bytes old new status = Unit {0}
-Answers (asked.Parts words) bytes old new status = Unit {0}
-Answers (asked.Record words) bytes old new status = Unit {0}
+-- What is out, and the status, where these are the bytes of standard input, which is read. Of other commands, and of a fault of `explain`,
+-- nothing is said here.
+abbrev pub Answers : Request → Option (List ℕ) → Option (List ℕ) → Option (List ℕ) → Result ℕ Fault → Type 0
+Answers (asked.Run words) bytes old new ended = words.file ≡ None → EndsRun words.run (coming_from_reader bytes) old new (end_status ended)
+Answers (asked.Explain words) bytes old new ended =
+    words.file ≡ None → words.out ≡ None → words.form ≡ Json → IfOk ended (λ status. (sent : Sent) × TellsJson words (coming_from_reader bytes) old new (status, sent))
+Answers (asked.Show text) bytes old new ended = Unit {0}
+Answers (asked.Draw drawing) bytes old new ended = Unit {0}
+Answers (asked.Image words) bytes old new ended = Unit {0}
+Answers (asked.ImageList words) bytes old new ended = Unit {0}
+Answers (asked.Slice words) bytes old new ended = Unit {0}
+Answers (asked.Stat words) bytes old new ended = Unit {0}
+Answers (asked.Parts words) bytes old new ended = Unit {0}
+Answers (asked.Record words) bytes old new ended = Unit {0}

@@ -1,6 +1,6 @@
 //! Doing what the words ask for.
 ghost use Rattle.std.specs.Prelude.{◌≤◌, IfOk};
-ghost use Rattle.pmtrim.specs.Commands.{Answers, end_status};
+ghost use Rattle.pmtrim.specs.Commands.{Answers};
 
 use crate::gathering::Gathered;
 use crate::record::record;
@@ -190,7 +190,7 @@ fn answer_to<T: AllocGlobal + Threads + Wait + Sync, O: Opener, I: Read, W: Writ
     terminals: Terminals,
 ) -> Result<u8, Fault>
     ensures few { IfOk result (λ status. status ≤ 1) }
-    ensures ends { Answers request.old (I.remaining input.old) (W.contents out.old) (W.contents out.new) (end_status result) }
+    ensures ends { Answers request.old (I.remaining input.old) (W.contents out.old) (W.contents out.new) result }
 {
     let alloc = rt.alloc();
     let recalls = match terminals.faults || request.is_verbose() {
@@ -204,7 +204,8 @@ fn answer_to<T: AllocGlobal + Threads + Wait + Sync, O: Opener, I: Read, W: Writ
         }
         Request::Run(words) => run_trace(rt, *words, files, input, out, recalls),
         Request::Explain(words) => {
-            run_explain(rt, alloc, words, files, input, out, terminals.colors)
+            let (status, _) = run_explain(rt, alloc, words, files, input, out, terminals.colors)?;
+            Ok(status)
         }
         Request::Draw(drawing) => draw(rt, alloc, drawing, files, input, out),
         Request::Image(words) => run_image(alloc, words, files, input, out),
