@@ -66,6 +66,17 @@ class Help(Checks):
         wanted = {name for path in programs() for name in (f"{path.name}.1", f"{path.name}.bash", f"_{path.name}", f"{path.name}.fish")}
         self.expect_equal("their names", {path.name for path in self.folder.iterdir()}, wanted)
 
+    def test_usage_of_all(self):
+        """The usage of a program names options of each command that the command's own usage has, too."""
+        for path in programs():
+            usage, command = re.search(r"^Usage: .*?^$", help_of(path), re.M | re.S), None
+            own = {name: help_of(path, name) for name in commands_of(path)}
+            for line in usage[0].splitlines():
+                named = re.match(rf"(?:Usage:)? +{path.name} (\w+)", line)
+                command = named[1] if named else command
+                gone = [option for option in re.findall(r"--[a-z-]+", line) if option not in own.get(command, option)]
+                self.expect(f"{path.name} {command}: options of its usage", not gone, gone)
+
     def test_layout(self):
         for program, command, text in self.helps():
             name = f"{program} {command}".strip()
