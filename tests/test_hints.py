@@ -55,7 +55,7 @@ def random_records(choose):
 def random_calls(choose):
     """The header, a trace of rounds by two threads, and labels. Most callers have one way."""
     size, events = 64, []
-    ways = {caller: choose.choice(("right", "right", "unfenced", "unfenced", "late", "late", "claimed", "vouched")) for caller in ("a.c", "b.c", "c.c")}
+    ways = {caller: choose.choice(("right", "right", "unfenced", "unfenced", "late", "late", "claimed", "vouched", "beside")) for caller in ("a.c", "b.c", "c.c")}
     for index in range(choose.randrange(3, 11)):
         caller = choose.choice(tuple(ways))
         way = choose.choice(tuple(WAYS)) if choose.random() < 0.05 else ways[caller]
@@ -168,6 +168,7 @@ class Hints(Checks):
         self.expect_paths("one round of it fences", right + bad + [("right", "b.c")], [])
         self.expect_paths("all callers do so: it is told of the place", bad + [("unfenced", "a.c")], [])
         self.expect_paths("one whose records are claimed", right + [("vouched", "b.c")] * 3, [])
+        self.expect_paths("one who claims its own field in their line", right + [("beside", "b.c")] * 3, [("log.c:31 fill < save b.c:6 < main m.c:2", 14, 3)])
         self.expect_paths("a claim of another caller", [("claimed", "a.c")] + bad, [("log.c:31 fill < save b.c:6 < main m.c:2", 9, 3)])
         self.expect_paths("one that saves them a fence late", right + late, [("log.c:30 fill < save b.c:6 < main m.c:2", 13, 3)])
         self.expect_paths("two rounds alone", right + late[:2], [])
@@ -201,7 +202,7 @@ class Hints(Checks):
         self.expect_short("a clflush", (*SHORT[:2], "clflush 0 0x1038", *SHORT[3:]), [])
 
     def test_claims(self):
-        """A flush that is open at a store, and assertions on its line."""
+        """A flush that is open at a store, and assertions on what it flushes, or on other bytes of its line."""
         batch, told = ("store 0 0x1000 01", "clwb 0 0x1000", "store 0 0x2000 02", "clwb 0 0x2000", "sfence 0"), [("x.c:2 f", 2, 1)]
         self.expect_open("no assertion", batch, told)
         self.expect_open("one that passes", (*batch, "isPersist 0 0x1000 1"), [])
@@ -214,6 +215,20 @@ class Hints(Checks):
         self.expect_open("an order that holds", (*batch, *mark, "isOrderedBefore 0 0x1000 1 0x3000 1"), [])
         self.expect_open("the mark of one that holds", (*batch, "isOrderedBefore 0 0x4000 1 0x1000 1"), told)
         self.expect_open("an order that does not hold", (*batch, "isOrderedBefore 0 0x2000 1 0x1000 1"), told)
+        self.expect_open("one on another field of the line", (*batch, "isPersist 0 0x1008 8"), told)
+        for what, acts, wanted in (
+            ("another function's, on its own field of the line", "s0 f0@f s1 f1 | s0.8@g f0@g | p0.8@g", [("f", 2, 1)]),
+            ("on the first one's field too", "s0 f0@f s1 f1 | s0.8@g f0@g | p0x9@g", []),
+            ("on what an earlier flush saves", "s0 f0@g | s0.8 f0@f s1 f1 | p0", [("f", 5, 1)]),
+            ("or an earlier clflush", "s0 F0 s0.8 f0@f s1 f1 | p0", [("f", 4, 1)]),
+            ("an earlier flush that is not kept", "s0 f0@g f0@f s1 f1 | p0", []),
+            ("on what is stored after the flush", "s0 f0@f s0.8 s1 f1 | f0 | p0.8", [("f", 2, 1)]),
+            ("on what is written over", "s0 f0@f s1 f1 | s0 f0@g | p0", [("f", 2, 1)]),
+            ("on what another thread stored", "t1 s0 t0 f0@f s1 f1 | p0", []),
+            ("on what one of two flushes of the place saves", "s0 f0@f s1 f1 | s2 f2@f s3 f3 | p0", []),
+        ):
+            events, labels = read_acts(acts)
+            self.expect_hints("open_at_store", what, map(spelled, events), wanted, list(labels.values()))
 
     def test_stored_after_mark(self):
         """What stands after a mark, and what is none, each by one change."""

@@ -107,9 +107,16 @@ def claims(explained):
 
 
 @functools.lru_cache(maxsize=1)
-def claimed_lines(explained):
-    """The lines of which an assertion that passes claims that a byte is saved: a second range is not."""
-    return {byte // explained.trace.size for _, ranges in claims(explained) for byte in range(ranges[0][0], sum(ranges[0]))}
+def claimed(explained):
+    """The stores of which an assertion that passes claims that they are saved: the last ones to bytes of its range, or of its first one."""
+    return {store for number, ranges in claims(explained) for store in explained.trace.last_stores(*ranges[0], number)}
+
+
+def is_excused(explained, number):
+    """Whether the flush saves a store that is claimed: it is the first flush of the store's line, of those that are kept, after the store."""
+    trace, line = explained.trace, explained.trace.line(number)
+    before = [other for other in range(1, number) if trace.is_flush_of(other, line, ("clflush", *FLUSHES)) and is_kept(trace, other)]
+    return any(trace.line(store) == line and store in range(max(before, default=0), number) for store in claimed(explained))
 
 
 @functools.lru_cache(maxsize=1)
@@ -137,9 +144,9 @@ def are_open(explained, flushes):
 
 def store_elsewhere(explained, number, key_of=place):
     """Open at a store: a flush that is kept, and that its thread has not fenced when it stores to another line. It is told where that is so of
-    each kept flush of its place, or path, and none of these is of a line that an assertion which passes claims."""
+    each kept flush of its place, or path, and none of these is excused."""
     flushes, trace = kept_flushes(explained, key_of).get(key_of(explained, number), []), explained.trace
-    is_told = number in flushes and are_open(explained, flushes) and all(trace.line(flush) not in claimed_lines(explained) for flush in flushes)
+    is_told = number in flushes and are_open(explained, flushes) and not any(is_excused(explained, flush) for flush in flushes)
     return store_past(trace, number) if is_told else None
 
 

@@ -1,11 +1,13 @@
 """Traces of a function whose callers save what it stores in ways of their own."""
 
-# How a caller saves a record, `r`, and its mark, `m`: it stores, `s`, flushes, `f`, fences, or claims the record, `c`.
+# How a caller saves a record, `r`, and its mark, `m`: it stores, `s`, flushes, `f`, fences, or claims the record, `c`; and `n` is a field of its own that
+# stands in the record's line.
 WAYS = {
     "right": "sr fr fence sm fm fence",
     "claimed": "sr fr fence c sm fm fence",
     "unfenced": "sr fr sm fm fence",
     "vouched": "sr fr sm fm fence c",
+    "beside": "sr fr sm fm fence sn fn fence cn",
     "late": "sr sm fm fence fr fence",
 }
 
@@ -13,10 +15,10 @@ WAYS = {
 def round_of(way, thread, at, label, caller):
     """The events of one round of a way, with their labels: the record is stored and flushed by a function that the caller calls."""
     for act in WAYS[way].split():
-        place = at + 64 * act.endswith("m")
+        place = at + 64 * act.endswith("m") + 8 * act.endswith("n")
         if act == "fence":
             yield f"sfence {thread}", f"{caller}:9 save"
-        elif act == "c":
+        elif act[0] == "c":
             yield f"isPersist {thread} {place:#x} 1", f"{caller}:9 save"
         else:
             event = f"store {thread} {place:#x} 01" if act[0] == "s" else f"clwb {thread} {place:#x}"

@@ -88,6 +88,14 @@ ENTRIES = {
         f"{THRICE('s1 f1 |')} s1 f1 | {THRICE('s0 f0 s1 f1 |')}",
         "suspect: suspect hint open_at_store f0",
     ),
+    "another function claims its own field of the line": (
+        f"{THRICE('s1 f1 |')} s1 f1 | {THRICE('s0 f0 s1 f1 |')} s0.8@g f0@h | p0.8@g",
+        "suspect: suspect hint open_at_store f0",
+    ),
+    "it claims what the last one flushes": (
+        f"{THRICE('s1 f1 |')} s1 f1 | {THRICE('s0 f0 s1 f1 |')} s0.8@g f0@h | p0@g",
+        "ok:",
+    ),
     "half of all do": (f"{THRICE('s1 f1 |')} {THRICE('s0 f0 s1 f1 |')}", "check: check hint open_at_store f0"),
     "at another address": (
         f"{THRICE('s1.8 f1 |')} s1.8 f1 | {THRICE('s0 f0 s1 f1 |')}",

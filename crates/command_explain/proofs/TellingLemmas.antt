@@ -3,8 +3,8 @@ use Rattle.std.proofs.Common.{◌≡◌, ℕ, List, [], Option, None, true, sym,
 use Rattle.std.specs.Prelude.{not, if◌then◌else◌}
 use Rattle.pmt_model.specs.Traces.{Recording}
 use Rattle.pmt_text.specs.Coming.{Coming, ComesWhole}
-use Rattle.pmt_asked.specs.Labelling.{label_of}
-use Rattle.pmt_explanation.specs.Status.{fails}
+use Rattle.pmt_asked.specs.Choosing.{label_of}
+use Rattle.pmt_explanation.specs.Summing.{fails}
 use Rattle.pmt_explain_json.specs.Lines.{IsJsonText}
 use Rattle.command_inputs.specs.declared.writing.Sent.{Sent}
 use Rattle.command_requests.specs.declared.explaining.ExplainWords.{ExplainWords}

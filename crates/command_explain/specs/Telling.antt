@@ -3,16 +3,14 @@ use Rattle.std.specs.Prelude.{◌≡◌, ℕ, not, Bool, false, if◌then◌else
 use Rattle.pmt_model.specs.Traces.{Recording}
 use Rattle.pmt_text.specs.Coming.{Coming, ComesWhole}
 use Rattle.pmt_analysis.specs.Analysing.{IsAnalysed}
-use Rattle.pmt_asked.specs.declared.labels.Labels.{Labels}
-use Rattle.pmt_asked.specs.declared.options.Options.{Options}
-use Rattle.pmt_asked.specs.Labelling.{label_of}
+use Rattle.pmt_explanation.specs.Prelude.{Labels, Options, label_of}
 use Rattle.pmt_explanation.specs.declared.explaining.Explanation.{Explanation}
 use Rattle.pmt_explanation.specs.Explaining.{IsExplanation}
-use Rattle.pmt_explanation.specs.Status.{fails}
+use Rattle.pmt_explanation.specs.Summing.{fails}
 use Rattle.pmt_explain_json.specs.declared.lacking.Lack.{Lack}
 use Rattle.pmt_explain_json.specs.Lines.{IsJsonText}
 use Rattle.command_inputs.specs.declared.writing.Sent.{Sent}
-use Rattle.command_inputs.specs.Writing.{Sends}
+use Rattle.command_inputs.specs.Devices.{Sends}
 use Rattle.command_requests.specs.declared.explaining.ExplainWords.{ExplainWords}
 use Rattle.command_explain.specs.declared.explain.Known.{Known}
 

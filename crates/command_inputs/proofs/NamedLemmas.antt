@@ -1,9 +1,8 @@
 -- A lent writer is the one that was lent, where its contents are known: its name stands before them.
-use Rattle.std.proofs.Common.{◌≡◌, ℕ, List, [], ◌∷◌, ◌++◌, length, take, Option, Some, None, Result, Ok, Err, sym, ap, ◌∙◌, subst, arith}
+use Rattle.std.proofs.Common.{◌≡◌, ℕ, List, ◌∷◌, ◌++◌, length, take, Option, Some, None, sym, ap, ◌∙◌, subst, arith}
 use Rattle.std.proofs.Math.Seq.{take-length}
 use Rattle.std.specs.Io.KnownBytes.{Appends, Keeps}
 use Rattle.command_inputs.specs.Devices.{named_contents}
-use Rattle.command_inputs.specs.Writing.{WritesFirst}
 
 same-name : (a b : ℕ) (xs ys : List ℕ) → a ∷ xs ≡ b ∷ ys → b ≡ a
 same-name a b xs ys e = grind (arith, e)
@@ -26,10 +25,6 @@ keeps-back lent now (Some xs) (Some ys) final ends w =
     let same : final ≡ Some ys = ends (same-name now lent ys xs w) in
     let kept : ys ≡ xs = same-bytes now lent ys xs w in
     subst (λ f. Keeps (Some xs) f) (sym same) kept
-
-pub first-back : {A E : Type 0} (lent now : ℕ) (old new final : Option (List ℕ)) (text : List ℕ) (r : Result A E) → (lent ≡ now → final ≡ new) → WritesFirst (named_contents lent old) (named_contents now new) text r → WritesFirst old final text r
-first-back lent now old new final text (Ok x) ends w = appends-back lent now old new final text ends w
-first-back lent now old new final text (Err e) ends w = (w.0, appends-back lent now old new final (take w.0 text) ends w.1)
 
 -- A text that is out whole is out by its first bytes, so many as it has.
 pub kept-first : (old mid new : Option (List ℕ)) (text : List ℕ) → Appends old mid text → Keeps mid new → (written : ℕ) × Appends old new (take written text)

@@ -1,3 +1,1 @@
 pub mod Devices
-pub mod Faults
-pub mod Writing

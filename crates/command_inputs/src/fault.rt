@@ -1,6 +1,6 @@
 //! The faults of the program: their lines and statuses.
 ghost use Rattle.std.specs.Prelude.{◌≡◌, ◌≤◌};
-ghost use Rattle.command_inputs.specs.Faults.{IsToldAs, fault_status};
+ghost use Rattle.command_inputs.specs.Devices.{IsToldAs, fault_status};
 
 use pmt_model::OutOfMemory;
 use pmt_report::{RecordFault, RunError, fault_text};

@@ -2,7 +2,7 @@
 
 ghost use Rattle.std.specs.Prelude.{◌≡◌, ℕ, None, IfOk, IsOk};
 ghost use Rattle.pmt_text.specs.Coming.{ComesWhole};
-ghost use Rattle.pmt_asked.specs.Labelling.{label_of};
+ghost use Rattle.pmt_asked.specs.Choosing.{label_of};
 ghost use Rattle.pmt_report.specs.Runs.{coming_from_reader};
 
 use crate::buffering::counted_reader;

@@ -1,7 +1,7 @@
 //! The files that are written: all of them, or none.
 
 ghost use Rattle.std.specs.Prelude.{◌≡◌, None, IfOk};
-ghost use Rattle.command_inputs.specs.Writing.{Sends};
+ghost use Rattle.command_inputs.specs.Devices.{Sends};
 
 use crate::fault::Fault;
 use crate::opener::{OpenError, Opener};

@@ -1,7 +1,6 @@
 //! What a person is told below a fault whose line is fixed: the file, the reason, and what to do.
 
-ghost use Rattle.command_inputs.specs.Faults.{IsToldAs, fault_status};
-ghost use Rattle.command_inputs.specs.Writing.{WritesFirst};
+ghost use Rattle.command_inputs.specs.Devices.{IsToldAs, fault_status, WritesFirst};
 
 use crate::fault::Fault;
 use crate::forms::Grammar;

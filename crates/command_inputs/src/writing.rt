@@ -3,7 +3,7 @@
 ghost use Rattle.std.specs.Prelude.{◌-◌, ◌<◌, ◌^◌, IfOk, OnOk};
 ghost use Rattle.std.specs.Io.KnownBytes.{Appends};
 ghost use Rattle.pmt_text.specs.Counting.{failure_count, inner_device};
-ghost use Rattle.command_inputs.specs.Writing.{Sends, WritesFirst};
+ghost use Rattle.command_inputs.specs.Devices.{Sends, WritesFirst};
 
 use crate::fault::Fault;
 use crate::reading::system_fault;

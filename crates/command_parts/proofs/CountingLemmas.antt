@@ -1,6 +1,5 @@
 -- One part more is counted.
-use Rattle.std.proofs.Common.{◌≡◌, ℕ, ◌+◌, ◌-◌, ◌^◌, List, [], ◌∷◌, ◌++◌, length, length-append, min, Result, Ok, Err, refl, sym, ◌∙◌, arith}
-use Rattle.std.specs.Result.{OnOk}
+use Rattle.std.proofs.Common.{◌≡◌, ℕ, ◌+◌, ◌-◌, ◌^◌, List, [], ◌∷◌, ◌++◌, length-append, min, refl, sym, ◌∙◌, arith}
 use Rattle.pmt_parts.specs.declared.part.Part.{Part}
 use Rattle.command_parts.specs.declared.files.Written.{Written}
 use Rattle.command_parts.specs.Counting.{IsCounted, last_end}
@@ -11,7 +10,3 @@ last-more end (q ∷ parts) p = last-more q.end parts p
 
 pub counted-more : (parts : List Part) (p : Part) (old new : Written) → IsCounted parts old → new.parts ≡ min (old.parts + 1) (2 ^ 64 - 1) → new.events ≡ p.end → IsCounted (parts ++ p ∷ []) new
 counted-more parts p old new counted more end = (omega (arith, more, counted.0, length-append parts (p ∷ [])), end ∙ sym (last-more 0 parts p))
-
-pub on-ok : {A E P : Type 0} (r : Result A E) → P → OnOk r P
-on-ok (Ok x) p = p
-on-ok (Err e) p = tt

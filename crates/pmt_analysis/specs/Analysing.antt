@@ -1,5 +1,5 @@
--- What the analysis of a source tells.
-use Rattle.std.specs.Prelude.{ℕ, List}
+-- What the analysis of a source tells, and how many workers may make it.
+use Rattle.std.specs.Prelude.{ℕ, List, ◌==◌, ◌||◌, Bool}
 use Rattle.pmt_model.specs.declared.finding.Finding.{Finding}
 use Rattle.pmt_model.specs.declared.finding.Verdict.{Verdict}
 use Rattle.pmt_model.specs.Traces.{Recording, IsTrace}
@@ -17,3 +17,7 @@ pub record Analysed : Type 0 where
 pub record IsAnalysed (a : Analysed) : Type 0 where
   pub is_trace : IsTrace a.trace
   pub right : IsAnalysis a.trace a.lines a.findings a.verdicts a.selection
+
+-- The numbers of workers that may be asked for.
+abbrev pub is_worker_count : ℕ → Bool
+is_worker_count n = (n == 1) || (n == 2) || (n == 4) || (n == 8) || (n == 16)

@@ -1,2 +1,1 @@
 pub mod Analysing
-pub mod Workers

@@ -1,6 +1,6 @@
 //! How many workers may make an analysis.
 ghost use Rattle.std.specs.Prelude.{◌≡◌};
-ghost use Rattle.pmt_analysis.specs.Workers.{is_worker_count};
+ghost use Rattle.pmt_analysis.specs.Analysing.{is_worker_count};
 
 /// Whether there may be this many workers.
 pub fn are_allowed(workers: usize) -> bool

@@ -7,7 +7,7 @@ use Rattle.std.proofs.lemmas.List.{length-drop, take_all, take-append-drop}
 use Rattle.std.proofs.lemmas.List.FromFn.{get_or-range_with_len, length-range_with_len}
 use Rattle.std.proofs.lemmas.List.Sums.{prefix_len_is}
 use Rattle.std.proofs.lemmas.Slice.Eq.{bytes_eq-Decides}
-use Rattle.pmt_asked.specs.Framing.{caller, has_caller, inner_frame, inner_length}
+use Rattle.pmt_asked.specs.Choosing.{caller, has_caller, inner_frame, inner_length}
 
 abbrev pub Lacks : List ℕ → ℕ → Type 0
 Lacks text i = (rest : List ℕ) → drop i text ≢ caller ++ rest

@@ -2,7 +2,7 @@
 use Rattle.std.proofs.Common.{◌≡◌, ℕ, suc, ◌+◌, ◌-◌, ◌<◌, ◌≤◌, Bool, true, false, ◌&&◌, List, length, drop, ap, ◌∙◌, arith}
 use Rattle.std.proofs.Math.Seq.{drop-cons}
 use Rattle.pmt_asked.specs.declared.ignoring.ByteRange.{ByteRange}
-use Rattle.pmt_asked.specs.Ignoring.{is_byte_ignored, are_ignored}
+use Rattle.pmt_asked.specs.Choosing.{is_byte_ignored, are_ignored}
 
 -- What stands from the byte on is ignored as the byte is and what stands behind it.
 from-byte : (ranges : List ByteRange) (a : ℕ) (bytes : List ℕ) (k : ℕ) → k < length bytes → (b : ℕ) →

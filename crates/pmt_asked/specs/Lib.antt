@@ -1,5 +1,2 @@
 pub mod Choosing
-pub mod Framing
-pub mod Ignoring
-pub mod Labelling
 pub mod Texts

@@ -1,6 +1,6 @@
 //! The innermost frames of labels.
 ghost use Rattle.std.specs.Prelude.{◌≡◌};
-ghost use Rattle.pmt_asked.specs.Framing.{inner_frame};
+ghost use Rattle.pmt_asked.specs.Choosing.{inner_frame};
 
 // What stands between a place and that of its caller.
 const CALLER: &str = " < ";

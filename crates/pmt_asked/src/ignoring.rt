@@ -1,6 +1,6 @@
 //! Which stores the user ignores.
 ghost use Rattle.std.specs.Prelude.{◌≡◌, []};
-ghost use Rattle.pmt_asked.specs.Ignoring.{has_byte as range_has, is_at_place as event_at_place, is_byte_ignored as byte_ignored, is_ignored as event_ignored, is_left_out as left_out, is_named as frame_named, is_place_ignored as place_ignored, is_store_ignored as store_ignored};
+ghost use Rattle.pmt_asked.specs.Choosing.{has_byte as range_has, is_at_place as event_at_place, is_byte_ignored as byte_ignored, is_ignored as event_ignored, is_left_out as left_out, is_named as frame_named, is_place_ignored as place_ignored, is_store_ignored as store_ignored};
 
 use crate::frames::frame_of;
 use crate::labels::Labels;

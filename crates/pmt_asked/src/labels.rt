@@ -1,6 +1,6 @@
 //! Labels of events.
 ghost use Rattle.std.specs.Prelude.{◌≡◌, ◌≢◌, ℕ, true, OnOk, OnErr, None, Some, option_map, string_bytes};
-ghost use Rattle.pmt_asked.specs.Labelling.{label_of};
+ghost use Rattle.pmt_asked.specs.Choosing.{label_of};
 
 use crate::event_texts::EventTexts;
 use pmt_model::OutOfMemory;

@@ -1,7 +1,7 @@
 -- How the table of a line is made.
 use Rattle.std.proofs.Common.{◌≡◌, ℕ, ◌+◌, ◌-◌, ◌<◌, ◌≤◌, ◌⊎◌, ◌↔◌, inl, inr, true, List, [], ◌∷◌, ◌++◌, length, get_or, take, refl, sym, ap, subst, ◌∙◌, arith}
 use Rattle.std.specs.Prelude.{◌^◌, Contains, All}
-use Rattle.std.specs.List.Sorted.{IsPermutation, IsNonDecreasingBy}
+use Rattle.pmt_laws.specs.Prelude.{IsPermutation, IsNonDecreasingBy, AllByRecursion}
 use Rattle.std.proofs.lemmas.List.Sorted.{IsPermutation-sym, Contains-permutation}
 use Rattle.std.proofs.lemmas.Bool.{cases_lt}
 use Rattle.std.proofs.lemmas.List.{take_more}
@@ -13,7 +13,6 @@ use Rattle.pmt_asserts.specs.declared.put.Put.{Put}
 use Rattle.pmt_asserts.specs.declared.put.Write.{Write}
 use Rattle.pmt_asserts.specs.Puts.{covers, with_put, puts_of, put_at, key_of, IsWriteOf, Fits, AreWritesOf}
 use Rattle.pmt_asserts.proofs.RankLemmas.{covers-range, range-covers}
-use Rattle.std.specs.List.{AllByRecursion}
 use Rattle.pmt_lines.specs.Jobs.{AreSteps, IsStepKind}
 
 -- one store, if it is one, before others

@@ -1,17 +1,13 @@
 -- The earliest of the last stores to the bytes of a range, line by line.
 use Rattle.std.proofs.Common.{◌≡◌, ℕ, ◌+◌, ◌<◌, ◌≤◌, inl, inr, Option, Some, None, IfSome, not, true, false, sym, ap, subst, ◌∙◌, arith}
 use Rattle.std.specs.Prelude.{if◌then◌else◌, MatchOption, nat_eq}
-use Rattle.std.specs.Option.{option_eq}
-use Rattle.std.proofs.lemmas.Bool.{cases_eq, cases_lt, false≢true, eq-eqb, eqb-true, not-false}
+use Rattle.std.proofs.lemmas.Bool.{cases_eq, false≢true, eq-eqb, eqb-true, not-false}
 use Rattle.std.proofs.lemmas.Bool.Decides.{leb_tells}
 use Rattle.std.proofs.lemmas.Option.{IfSome_then}
-use Rattle.pmt_model.specs.Values.{Span, line_of}
-use Rattle.pmt_model.specs.Traces.{Recording, history}
-use Rattle.pmt_model.specs.Assertions.{last_store, up_to_last, InSpan}
+use Rattle.pmt_laws.specs.Prelude.{Span, line_of, Recording, history, last_store, up_to_last, InSpan, option_eq}
 use Rattle.pmt_asserts.specs.declared.oldest.Oldest.{Oldest}
 use Rattle.pmt_asserts.specs.declared.oldest.Earliest.{Earliest}
-use Rattle.pmt_asserts.specs.Tables.{IsUnwritten, IsLastAt}
-use Rattle.pmt_asserts.specs.Judging.{IsOldestIn, IsOldestOfLine, IsTaken, ComesNoEarlier, IsEarliestOf, earlier_of}
+use Rattle.pmt_asserts.specs.Tables.{IsUnwritten, IsLastAt, IsOldestIn, IsOldestOfLine, IsTaken, ComesNoEarlier, IsEarliestOf, earlier_of}
 
 -- The earliest of those in the lines below end.
 pub record EarliestBelow (T : Recording) (i : ℕ) (skipped : Option ℕ) (A : Span) (end : ℕ) (e : Earliest) : Type 0 where

@@ -1,21 +1,15 @@
 -- The verdicts, from what the tables tell line by line.
 use Rattle.std.proofs.Common.{◌≡◌, ◌≢◌, ℕ, zero, suc, ◌≤◌, ◌⊎◌, ◌↔◌, inl, inr, Bool, true, false, List, ◌∷◌, Option, Some, None, IfSome, refl, sym, ap, subst, ◌∙◌, le_trans, arith}
 use Rattle.std.specs.Prelude.{if◌then◌else◌, ◌==◌}
-use Rattle.std.specs.Option.{option_map}
 use Rattle.std.proofs.lemmas.Bool.{cases_eq}
 use Rattle.std.proofs.lemmas.Bool.Decides.{eqb_tells}
 use Rattle.std.proofs.lemmas.Option.{IfSome_then}
-use Rattle.pmt_model.specs.Values.{Span, line_of}
-use Rattle.pmt_model.specs.Machine.{Act, Stores, Flushes, Clflushes, Fences, Asserts, count, writes}
-use Rattle.pmt_model.specs.Traces.{Recording, IsTrace, IsAct, history}
-use Rattle.pmt_model.specs.Fronts.{front, front_at}
-use Rattle.pmt_model.specs.Assertions.{Placed, last_store, up_to_last, InSpan, PersistPasses, OrderedPasses, NoLater}
+use Rattle.pmt_laws.specs.Prelude.{Span, line_of, Act, Stores, Flushes, Clflushes, Fences, Asserts, count, writes, Recording, IsTrace, IsAct, history, front, front_at, Placed, last_store, up_to_last, InSpan, PersistPasses, OrderedPasses, NoLater, option_map}
 use Rattle.pmt_laws.proofs.Histories.{history-act, history-step, front-mono, front-le-count}
 use Rattle.pmt_laws.proofs.AssertLemmas.{persist_by_fronts, ordered_by_fronts, last_rank}
 use Rattle.pmt_asserts.specs.declared.oldest.Oldest.{Oldest}
 use Rattle.pmt_asserts.specs.declared.oldest.Earliest.{Earliest}
-use Rattle.pmt_asserts.specs.Tables.{PersistedBy, RankedBy, IsUnwritten, IsLastAt}
-use Rattle.pmt_asserts.specs.Judging.{EachIn, IsOldestIn, ComesNoEarlier, IsEarliest, IsEarliestOf, RanksBefore, IsLineInOrder, IsLineOrdered, place_for}
+use Rattle.pmt_asserts.specs.Tables.{PersistedBy, RankedBy, IsUnwritten, IsLastAt, EachIn, IsOldestIn, ComesNoEarlier, IsEarliest, IsEarliestOf, RanksBefore, IsLineInOrder, IsLineOrdered, place_for}
 use Rattle.pmt_lines.proofs.TraceLemmas.{writes-line}
 
 -- The last store to a byte is to the byte's line.

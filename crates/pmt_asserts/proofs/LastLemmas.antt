@@ -2,10 +2,7 @@
 use Rattle.std.proofs.Common.{◌≡◌, ℕ, zero, suc, ◌-◌, ◌<◌, ◌≤◌, ◌⊎◌, inl, inr, true, false, List, ◌∷◌, length, Some, None, refl, sym, ap, subst, ◌∙◌, arith}
 use Rattle.std.specs.Prelude.{◌&&◌, nat_le, nat_lt}
 use Rattle.std.proofs.lemmas.Bool.{cases_Bool, cases_eq}
-use Rattle.pmt_model.specs.Values.{Written, line_of}
-use Rattle.pmt_model.specs.Machine.{Act, Stores, Flushes, Clflushes, Fences, Asserts, count, writes}
-use Rattle.pmt_model.specs.Traces.{Recording, IsTrace, IsAct, history, count_at}
-use Rattle.pmt_model.specs.Assertions.{last_store, up_to_last}
+use Rattle.pmt_laws.specs.Prelude.{Written, line_of, Act, Stores, Flushes, Clflushes, Fences, Asserts, count, writes, Recording, IsTrace, IsAct, history, count_at, last_store, up_to_last}
 use Rattle.pmt_laws.proofs.Histories.{history-act, history-step, act-unique}
 use Rattle.pmt_laws.proofs.BoxLemmas.{count-store, count-store_other}
 use Rattle.pmt_asserts.specs.declared.put.Put.{Put}

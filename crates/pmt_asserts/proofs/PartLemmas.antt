@@ -3,14 +3,10 @@ use Rattle.std.proofs.Common.{◌≡◌, ℕ, ◌+◌, ◌*◌, ◌/◌, ◌<◌
 use Rattle.std.specs.Prelude.{max, min, Option, None, Some}
 use Rattle.std.proofs.lemmas.Nat.{div_below, le-div}
 use Rattle.std.proofs.Math.Nat.{lt-div-mul-add, div-mul-le_self}
-use Rattle.pmt_model.specs.Values.{Layout, Span, line_of}
-use Rattle.pmt_model.specs.Formats.{IsFormat}
-use Rattle.pmt_model.specs.Traces.{Recording}
-use Rattle.pmt_model.specs.Assertions.{InSpan}
+use Rattle.pmt_laws.specs.Prelude.{Layout, Span, line_of, IsFormat, Recording, InSpan}
 use Rattle.pmt_asserts.specs.declared.oldest.Oldest.{Oldest}
 use Rattle.pmt_asserts.specs.declared.part.Part.{Part}
-use Rattle.pmt_asserts.specs.Tables.{IsOldestOf}
-use Rattle.pmt_asserts.specs.Judging.{IsOldestOfLine}
+use Rattle.pmt_asserts.specs.Tables.{IsOldestOf, IsOldestOfLine}
 use Rattle.pmt_lines.proofs.TraceLemmas.{size-some}
 
 -- the bytes of a range in a line are those from the later start to the earlier end

@@ -4,12 +4,9 @@ use Rattle.std.specs.Prelude.{All, Contains, if◌then◌else◌, ◌==◌, nat_
 use Rattle.std.proofs.lemmas.Bool.{cases_eq, cases_lt, cases_Bool, eq-eqb, ne_eqb}
 use Rattle.std.proofs.lemmas.Option.{same_Some}
 use Rattle.std.proofs.lemmas.List.Elements.{All-push, All-from_recursion, All-contains}
-use Rattle.pmt_model.specs.Values.{line_of}
-use Rattle.pmt_model.specs.Machine.{Act, Stores, Flushes, Clflushes, Fences, Asserts, count}
-use Rattle.pmt_model.specs.Traces.{Recording, IsTrace, history, count_at, lines_of, has_line, with_line}
+use Rattle.pmt_laws.specs.Prelude.{line_of, Act, Stores, Flushes, Clflushes, Fences, Asserts, count, Recording, IsTrace, history, count_at, lines_of, has_line, with_line}
 use Rattle.pmt_lines.specs.Jobs.{LineFound, IsJob}
-use Rattle.pmt_asserts.specs.Tables.{found_line, AreResultsOf, IsUnwritten}
-use Rattle.pmt_asserts.specs.Placing.{IsPlacing}
+use Rattle.pmt_asserts.specs.Tables.{found_line, AreResultsOf, IsUnwritten, IsPlacing}
 use Rattle.pmt_asserts.proofs.LastLemmas.{LastIs, NoLast, LastAt, last-is}
 
 -- an element that stays, and the one that is added

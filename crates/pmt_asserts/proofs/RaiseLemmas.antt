@@ -1,7 +1,6 @@
 -- The front of a line at a place, from its raises.
 use Rattle.std.proofs.Common.{◌≡◌, ℕ, zero, suc, ◌<◌, ◌≤◌, List, [], ◌∷◌, length, get_or, refl, ◌∙◌, arith}
-use Rattle.pmt_model.specs.Traces.{Recording}
-use Rattle.pmt_model.specs.Fronts.{front_at}
+use Rattle.pmt_laws.specs.Prelude.{Recording, front_at}
 use Rattle.pmt_lines.specs.Jobs.{Raise, RaisesBetween}
 
 abbrev pub no_raise : Raise

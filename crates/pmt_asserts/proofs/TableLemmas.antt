@@ -1,14 +1,10 @@
 -- What a line's table tells of a trace.
 use Rattle.std.proofs.Common.{◌≡◌, ℕ, zero, suc, ◌-◌, ◌<◌, ◌≤◌, ◌⊎◌, ◌↔◌, inl, inr, true, false, List, length, get_or, Some, IfSome, sym, ap, subst, ◌∙◌, arith}
 use Rattle.std.specs.Prelude.{nat_le}
-use Rattle.std.specs.List.Sorted.{IsPartitionPoint, IsPartitionedBy}
 use Rattle.std.proofs.lemmas.Bool.{leb-true}
 use Rattle.std.proofs.lemmas.Bool.Decides.{leb_tells}
 use Rattle.std.proofs.lemmas.List.Sorted.{IsPartitionedBy-leb, IsNonDecreasingBy-from_default}
-use Rattle.pmt_model.specs.Values.{line_of}
-use Rattle.pmt_model.specs.Traces.{Recording, IsTrace, history, count_at}
-use Rattle.pmt_model.specs.Fronts.{front_at}
-use Rattle.pmt_model.specs.Assertions.{up_to_last}
+use Rattle.pmt_laws.specs.Prelude.{line_of, Recording, IsTrace, history, count_at, front_at, up_to_last, IsPartitionPoint, IsPartitionedBy}
 use Rattle.pmt_lines.specs.declared.step.Step.{Step}
 use Rattle.pmt_lines.specs.Jobs.{Raise, LineFound, IsLineResult, RaisesBetween, IsJobOf, IsJob}
 use Rattle.pmt_asserts.specs.declared.put.Put.{Put}

@@ -1,9 +1,7 @@
 -- What the stores of a line's job tell of the trace.
 use Rattle.std.proofs.Common.{◌≡◌, ℕ, zero, suc, ◌+◌, ◌-◌, ◌<◌, ◌≤◌, ◌⊎◌, inl, inr, List, [], ◌∷◌, length, refl, sym, ap, subst, ◌∙◌, arith}
 use Rattle.std.proofs.lemmas.Bool.{cases_lt, cases_order}
-use Rattle.pmt_model.specs.Values.{Written}
-use Rattle.pmt_model.specs.Machine.{Act, Stores, Flushes, Clflushes, Fences, Asserts, count}
-use Rattle.pmt_model.specs.Traces.{Recording, IsAct, act, history, count_at}
+use Rattle.pmt_laws.specs.Prelude.{Written, Act, Stores, Flushes, Clflushes, Fences, Asserts, count, Recording, IsAct, act, history, count_at}
 use Rattle.pmt_laws.proofs.Histories.{history-act, history-step, act-within, count-mono}
 use Rattle.pmt_laws.proofs.BoxLemmas.{count-store, count-store_other}
 use Rattle.pmt_lines.specs.declared.step.StepKind.{StepKind}

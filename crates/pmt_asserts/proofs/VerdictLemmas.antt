@@ -1,16 +1,10 @@
 -- The verdicts of all assertions, from that of each.
 use Rattle.std.proofs.Common.{◌≡◌, ℕ, zero, suc, ◌<◌, ◌≤◌, ◌⊎◌, ◌↔◌, inl, inr, Bool, true, false, List, [], ◌∷◌, ◌++◌, length, Option, Some, None, refl, sym, ap, subst, ◌∙◌, arith}
 use Rattle.std.specs.Prelude.{IsTrue, filter_map}
-use Rattle.std.specs.List.{AllZip}
 use Rattle.std.proofs.lemmas.Bool.{cases_lt, false≢true}
 use Rattle.std.proofs.lemmas.Option.{same_Some, slice_get_within}
-use Rattle.pmt_model.specs.declared.event.Event.{Event}
-use Rattle.pmt_model.specs.declared.finding.Verdict.{Verdict}
-use Rattle.pmt_model.specs.Traces.{Recording, event, history}
-use Rattle.pmt_model.specs.Selections.{IsRising, Has}
-use Rattle.pmt_model.specs.Assertions.{PersistPasses, OrderedPasses}
-use Rattle.pmt_model.specs.Analyses.{IsVerdictOf, OfPersist, OfOrdered, HasVerdict, InEventOrder, IsVerdicts}
-use Rattle.pmt_asserts.specs.Judging.{IsVerdictAt, asserts, AreAssertions}
+use Rattle.pmt_laws.specs.Prelude.{Event, Verdict, Recording, event, history, IsRising, Has, PersistPasses, OrderedPasses, IsVerdictOf, OfPersist, OfOrdered, HasVerdict, InEventOrder, IsVerdicts, AllZip}
+use Rattle.pmt_asserts.specs.Tables.{IsVerdictAt, asserts, AreAssertions}
 
 -- one number more at the end
 rising-push : (low n : ℕ) (ks : List ℕ) → IsRising low ks → ((k : ℕ) → Has ks k → k < n) → low < n → IsRising low (ks ++ n ∷ [])

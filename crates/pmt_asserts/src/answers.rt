@@ -1,8 +1,7 @@
 //! What the tables tell of one line.
 ghost use Rattle.std.specs.Prelude.{ℕ, ◌<◌, ◌≤◌, ◌^◌, ◌↔◌, IsTrue};
 ghost use Rattle.pmt_model.specs.Traces.{Recording};
-ghost use Rattle.pmt_asserts.specs.Tables.{PersistedBy, RankedBy};
-ghost use Rattle.pmt_asserts.specs.Judging.{EachIn, IsOldestOfLine, Knows};
+ghost use Rattle.pmt_asserts.specs.Tables.{PersistedBy, RankedBy, EachIn, IsOldestOfLine, Knows};
 
 use crate::oldest::Oldest;
 use crate::part::part_of;

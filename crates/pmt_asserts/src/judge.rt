@@ -1,11 +1,7 @@
 //! The verdicts of the assertions of a trace.
 ghost use Rattle.std.specs.Prelude.{◌≡◌, ◌≢◌, ℕ, ◌+◌, ◌<◌, ◌≤◌, ◌^◌, ◌↔◌, IsTrue, false, IfOk, IfSome, length, Option, Some};
-ghost use Rattle.pmt_model.specs.Values.{line_of};
-ghost use Rattle.pmt_model.specs.Traces.{Recording, event, history};
-ghost use Rattle.pmt_model.specs.Assertions.{InSpan, PersistPasses, OrderedPasses};
-ghost use Rattle.pmt_model.specs.Analyses.{IsVerdicts};
-ghost use Rattle.pmt_asserts.specs.Tables.{AreResultsOf, IsUnwritten};
-ghost use Rattle.pmt_asserts.specs.Judging.{AreAssertions, asserts, IsEarliestOf, IsVerdictAt, IsLineInOrder, IsLineOrdered, Knows, earlier_of, place_for};
+ghost use Rattle.pmt_laws.specs.Prelude.{line_of, Recording, event, history, InSpan, PersistPasses, OrderedPasses, IsVerdicts};
+ghost use Rattle.pmt_asserts.specs.Tables.{AreResultsOf, IsUnwritten, AreAssertions, asserts, IsEarliestOf, IsVerdictAt, IsLineInOrder, IsLineOrdered, Knows, earlier_of, place_for};
 
 use crate::oldest::{Earliest, Oldest};
 use crate::tables::Tables;

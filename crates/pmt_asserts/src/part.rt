@@ -1,7 +1,6 @@
 //! The part of a range that lies in one line.
 ghost use Rattle.std.specs.Prelude.{◌≡◌, ℕ, ◌<◌, ◌≤◌, ◌^◌, ◌↔◌};
-ghost use Rattle.pmt_model.specs.Values.{line_of};
-ghost use Rattle.pmt_model.specs.Assertions.{InSpan};
+ghost use Rattle.pmt_laws.specs.Prelude.{line_of, InSpan};
 
 use pmt_model::{Format, Range};
 

@@ -1,7 +1,6 @@
 //! The table of one line: its result, made ready for searches by place and by byte.
 ghost use Rattle.std.specs.Prelude.{◌≡◌, ℕ, ◌<◌, ◌≤◌, ◌↔◌, IsTrue, IfOk, length};
-ghost use Rattle.pmt_model.specs.Traces.{count_at as stores_by};
-ghost use Rattle.pmt_model.specs.Fronts.{front_at as front_by};
+ghost use Rattle.pmt_laws.specs.Prelude.{count_at as stores_by, front_at as front_by};
 ghost use Rattle.pmt_asserts.specs.Puts.{puts_of, last_in, IsLeastOf, IsLesser};
 ghost use Rattle.pmt_asserts.specs.Tables.{OfEachTrace, LieIn, EachFrom, PersistedBy, RankedBy, IsOldestOf};
 

@@ -19,7 +19,7 @@ impl Model for Tables {
     ghost use Rattle.std.specs.Prelude.{List, nat_eq};
     ghost use Rattle.indexmap.specs.IndexMap.{get};
     ghost use Rattle.pmt_lines.specs.Jobs.{LineFound};
-    ghost use Rattle.pmt_asserts.specs.Placing.{IsPlacing};
+    ghost use Rattle.pmt_asserts.specs.Tables.{IsPlacing};
 
     ghost Value = { List LineFound };
 

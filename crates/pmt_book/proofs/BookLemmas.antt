@@ -1,16 +1,11 @@
 -- What a book keeps goes on from event to event.
 use Rattle.std.proofs.Common.{◌≡◌, ℕ, false, List, ◌∷◌, None, sym, ap, subst, ◌∙◌}
-use Rattle.pmt_model.specs.declared.event.Event.{Event}
-use Rattle.pmt_model.specs.Machine.{Act, count}
-use Rattle.pmt_model.specs.Fronts.{front}
-use Rattle.pmt_model.specs.Traces.{Recording, act, has_line}
-use Rattle.pmt_model.specs.Pushing.{with_event}
+use Rattle.pmt_laws.specs.Prelude.{Event, Act, count, front, Recording, act, has_line, with_event}
 use Rattle.pmt_book.specs.declared.live.LiveLines.{LiveLines}
 use Rattle.pmt_rows.specs.declared.rows.Row.{Row}
 use Rattle.pmt_tables.specs.Slots.{IsFound}
-use Rattle.pmt_book.specs.Live.{IsLiveWith}
+use Rattle.pmt_book.specs.Live.{IsLiveWith, whole_history}
 use Rattle.pmt_tables.proofs.ListLemmas.{list_any-has_line, not-among}
-use Rattle.pmt_book.specs.Ends.{whole_history}
 use Rattle.pmt_book.proofs.HistoryLemmas.{whole_history-with_event}
 
 -- What a book of this trace keeps of its lines.

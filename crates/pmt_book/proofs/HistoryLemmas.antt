@@ -1,13 +1,9 @@
 -- The history of a book with one more event.
 use Rattle.std.proofs.Common.{◌≡◌, List, [], ◌∷◌, ◌++◌, length, map, reverse, sym, ap, ◌∙◌, arith}
 use Rattle.std.proofs.lemmas.List.{take_all, map-append, reverse-append}
-use Rattle.pmt_model.specs.declared.event.Event.{Event}
-use Rattle.pmt_model.specs.Values.{Layout}
-use Rattle.pmt_model.specs.Machine.{Act}
-use Rattle.pmt_model.specs.Traces.{Recording, act}
-use Rattle.pmt_model.specs.Pushing.{with_event}
+use Rattle.pmt_laws.specs.Prelude.{Event, Layout, Act, Recording, act, with_event}
 use Rattle.pmt_laws.proofs.Histories.{length-history}
-use Rattle.pmt_book.specs.Ends.{whole_history}
+use Rattle.pmt_book.specs.Live.{whole_history}
 
 -- the acts of events, the newest first, with one more event
 pub acts-append : (f : Layout) (es : List Event) (e : Event) → reverse (map (act f) (es ++ e ∷ [])) ≡ act f e ∷ reverse (map (act f) es)

@@ -3,19 +3,14 @@ use Rattle.std.proofs.Common.{◌≡◌, ◌≢◌, ℕ, suc, ◌<◌, ◌≤◌
 use Rattle.std.specs.Prelude.{◌==◌, if◌then◌else◌, All}
 use Rattle.std.proofs.lemmas.List.{length-map, map-append}
 use Rattle.std.proofs.lemmas.Option.{get_or_from_slice_get, slice_get-get_or, slice_get_within}
-use Rattle.pmt_model.specs.Machine.{Act, Stores, Flushes, Clflushes, Fences, Asserts, count}
-use Rattle.pmt_model.specs.Values.{Written}
-use Rattle.pmt_model.specs.Traces.{with_line}
-use Rattle.pmt_model.specs.Fronts.{front}
+use Rattle.pmt_laws.specs.Prelude.{Act, Stores, Flushes, Clflushes, Fences, Asserts, count, Written, with_line, front}
 use Rattle.pmt_laws.specs.Passing.{Flushed, open_flushes, most}
 use Rattle.pmt_laws.proofs.PassLemmas.{fence_raises}
 use Rattle.pmt_rows.specs.declared.rows.Rows.{Rows}
 use Rattle.pmt_rows.specs.declared.open.OpenFlush.{OpenFlush}
-use Rattle.pmt_rows.specs.Linked.{raised}
+use Rattle.pmt_rows.specs.Known.{raised, AreRows, row_by}
 use Rattle.pmt_tables.specs.Slots.{IsSlotOf}
-use Rattle.pmt_rows.specs.Known.{AreRows, row_by}
-use Rattle.pmt_rows.specs.Waiting.{Waiting, waiting_by, list_at, raise_all}
-use Rattle.pmt_rows.specs.Fencing.{waits_all}
+use Rattle.pmt_rows.specs.Waiting.{Waiting, waiting_by, list_at, raise_all, waits_all}
 use Rattle.pmt_rows.proofs.RowLemmas.{rows-same}
 use Rattle.pmt_rows.proofs.WaitingLemmas.{raise-max}
 use Rattle.pmt_rows.proofs.OpenLemmas.{waits-on}

@@ -1,20 +1,11 @@
 -- An isPersist passes exactly if, on each line of its range, no store past the front writes a byte of it.
 use Rattle.std.proofs.Common.{◌≡◌, ◌≢◌, ℕ, zero, suc, ◌+◌, ◌-◌, ◌<◌, ◌≤◌, ◌⊎◌, inl, inr, Bool, true, false, List, [], ◌∷◌, ◌++◌, length, map, reverse, Option, Some, None, IfSome, max, refl, sym, ap, subst, ◌∙◌, arith, le_trans}
 use Rattle.std.specs.Prelude.{◌==◌, ◌&&◌, not, nat_lt, if◌then◌else◌}
-use Rattle.std.specs.List.{AllByRecursion}
 use Rattle.std.proofs.lemmas.List.{reverse-append}
 use Rattle.std.proofs.lemmas.Bool.{eq-eqb, ne_eqb, cases_lt, cases_eq, true≢false, ltb-true}
-use Rattle.pmt_model.specs.declared.event.Event.{Event}
-use Rattle.pmt_model.specs.declared.event.Op.{Op}
-use Rattle.pmt_model.specs.declared.event.Op.TheVariants.{Store, Clwb, ClflushOpt, Clflush, Sfence, Mfence, IsPersist, IsOrderedBefore}
-use Rattle.pmt_model.specs.Values.{Written, Span, Layout, line_of, IsRange}
-use Rattle.pmt_model.specs.Machine.{Act, Stores, Flushes, Clflushes, Fences, Asserts, count, writes}
-use Rattle.pmt_model.specs.Fronts.{front}
-use Rattle.pmt_model.specs.Traces.{Recording, IsTrace, IsEventIn, IsOp, act, act_of}
-use Rattle.pmt_model.specs.Assertions.{Placed, last_store, InSpan}
+use Rattle.pmt_laws.specs.Prelude.{Event, Op, Store, Written, Span, Layout, line_of, IsRange, Act, Stores, count, writes, front, Recording, IsTrace, IsEventIn, IsOp, act, act_of, Placed, last_store, InSpan, AllByRecursion}
 use Rattle.pmt_laws.proofs.AssertLemmas.{persist_by_fronts}
-use Rattle.pmt_book.specs.Ends.{whole_history, last_front, last_count, PassesNow}
-use Rattle.pmt_book.specs.Touching.{touches, store_on, none_touches_next, none_touches}
+use Rattle.pmt_book.specs.Live.{whole_history, last_front, last_count, PassesNow, touches, store_on, none_touches_next, none_touches}
 use Rattle.pmt_book.proofs.HistoryLemmas.{whole_history-acts}
 use Rattle.pmt_book.proofs.StoreBytes.{IsStoreOf, IsSize, size-of_format, byte-line, byte-from_writes, writes-from_byte, line-le}
 

@@ -2,9 +2,7 @@
 use Rattle.std.proofs.Common.{◌≡◌, ℕ, ◌+◌, ◌-◌, ◌/◌, ◌<◌, ◌≤◌, ◌==◌, Bool, true, false, length, refl, sym, ◌∙◌, arith, eqb-true}
 use Rattle.std.specs.Prelude.{◌&&◌, ◌||◌, nat_le, nat_lt, IsTrue}
 use Rattle.std.proofs.lemmas.Bool.{ltb-true, leb-true, true≢false}
-use Rattle.pmt_model.specs.Values.{Written, Layout, line_of, IsStore}
-use Rattle.pmt_model.specs.Formats.{IsFormat, is_line_size}
-use Rattle.pmt_model.specs.Machine.{writes}
+use Rattle.pmt_laws.specs.Prelude.{Written, Layout, line_of, IsStore, IsFormat, is_line_size, writes}
 
 -- A store within its limits, of this line.
 pub record IsStoreOf (f : Layout) (l : ℕ) (w : Written) : Type 0 where

@@ -1,11 +1,8 @@
 -- The newest stores to a line, event by event.
 use Rattle.std.proofs.Common.{◌≡◌, ℕ, zero, suc, ◌-◌, Bool, true, false, List, [], ◌∷◌, ◌++◌, map, reverse, Option, Some, refl, sym, ap, ◌∙◌, arith}
 use Rattle.std.specs.Prelude.{◌&&◌, not}
-use Rattle.pmt_model.specs.declared.event.Event.{Event}
-use Rattle.pmt_model.specs.Values.{Written, Span, Layout}
-use Rattle.pmt_model.specs.Machine.{Act}
-use Rattle.pmt_model.specs.Traces.{act}
-use Rattle.pmt_book.specs.Touching.{touches, store_on, none_touches_next, none_touches}
+use Rattle.pmt_laws.specs.Prelude.{Event, Written, Span, Layout, Act, act}
+use Rattle.pmt_book.specs.Live.{touches, store_on, none_touches_next, none_touches}
 use Rattle.pmt_book.proofs.HistoryLemmas.{acts-append}
 
 -- the newest act is a store to the line

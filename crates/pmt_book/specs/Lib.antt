@@ -1,4 +1,1 @@
-pub mod Adding
-pub mod Ends
-pub mod Touching
 pub mod Live

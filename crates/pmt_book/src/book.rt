@@ -1,12 +1,7 @@
 //! The book: the events so far, with the front and count of each line.
 ghost use Rattle.std.specs.Prelude.{◌≡◌, ℕ, ◌<◌, ◌≤◌, ◌==◌, ◌↔◌, length, IfOk, OnOk, OnErr, IsTrue};
-ghost use Rattle.pmt_model.specs.Formats.{first_version};
-ghost use Rattle.pmt_model.specs.Machine.{Flushes, Fences, Asserts};
-ghost use Rattle.pmt_model.specs.Pushing.{empty, with_event};
-ghost use Rattle.pmt_model.specs.Traces.{event as event_at, act, event_limit, IsTrace};
-ghost use Rattle.pmt_model.specs.Values.{line_of as line_in};
-ghost use Rattle.pmt_book.specs.Adding.{AddsEvent, event_by};
-ghost use Rattle.pmt_book.specs.Ends.{last_front, last_count, PassesNow};
+ghost use Rattle.pmt_laws.specs.Prelude.{first_version, Flushes, Fences, Asserts, empty, with_event, event as event_at, act, event_limit, IsTrace, line_of as line_in};
+ghost use Rattle.pmt_book.specs.Live.{AddsEvent, event_by, last_front, last_count, PassesNow};
 
 use crate::copying::copied_trace;
 use crate::fault::BookError;
@@ -30,7 +25,7 @@ pub struct Book {
 
 impl Model for Book {
     ghost use Rattle.pmt_model.specs.Traces.{Recording};
-    ghost use Rattle.pmt_book.specs.Ends.{whole_history};
+    ghost use Rattle.pmt_book.specs.Live.{whole_history};
     ghost use Rattle.pmt_book.specs.Live.{IsLiveWith};
 
     ghost Value = { Recording };

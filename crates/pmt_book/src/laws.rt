@@ -1,6 +1,6 @@
 //! What the contracts of a book say of the machine: the function has an empty body, and its contract is the statement.
 
-ghost use Rattle.pmt_book.specs.Ends.{EndsAreBetween};
+ghost use Rattle.pmt_book.specs.Live.{EndsAreBetween};
 
 use crate::book::Book;
 

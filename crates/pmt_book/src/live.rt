@@ -1,13 +1,9 @@
 //! The lines of a trace under way.
 ghost use Rattle.std.specs.Prelude.{◌≡◌, ◌^◌, ℕ, suc, ◌<◌, List, [], ◌∷◌, length, All, IfOk, OnOk, OnErr};
-ghost use Rattle.pmt_model.specs.Machine.{Act, Stores, Flushes, Clflushes, Fences, count as count_in};
-ghost use Rattle.pmt_model.specs.Fronts.{front as front_in};
-ghost use Rattle.pmt_model.specs.Traces.{with_line};
-ghost use Rattle.pmt_model.specs.Values.{Written};
-ghost use Rattle.pmt_rows.specs.Fencing.{waits_all};
+ghost use Rattle.pmt_laws.specs.Prelude.{Act, Stores, Flushes, Clflushes, Fences, count as count_in, front as front_in, with_line, Written};
+ghost use Rattle.pmt_rows.specs.Waiting.{waits_all, raise_all as raised_by};
 ghost use Rattle.pmt_rows.specs.Known.{AreRows};
 ghost use Rattle.pmt_tables.specs.Slots.{IsFound, IsSlotOf};
-ghost use Rattle.pmt_rows.specs.Waiting.{raise_all as raised_by};
 ghost use Rattle.pmt_book.specs.Live.{IsLive, IsLiveWith, IsKnown, HasRoom, Keeps};
 
 use pmt_model::OutOfMemory;

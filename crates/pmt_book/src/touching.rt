@@ -2,7 +2,7 @@
 
 ghost use Rattle.std.specs.Prelude.{◌≡◌, map, reverse};
 ghost use Rattle.pmt_model.specs.Traces.{act};
-ghost use Rattle.pmt_book.specs.Touching.{touches as touches_range, store_on, none_touches as none_touches_range};
+ghost use Rattle.pmt_book.specs.Live.{touches as touches_range, store_on, none_touches as none_touches_range};
 
 use pmt_model::{Event, Format, Op, Range, WordStore, line_of};
 

@@ -1,24 +1,15 @@
 -- How many numbers pass a test.
 use Rattle.std.proofs.Common.{◌≡◌, ℕ, zero, suc, ◌+◌, ◌-◌, ◌<◌, ◌≤◌, ◌⊎◌, inl, inr, Bool, true, false, List, length, take, min, get_or, refl, sym, ap, subst, ◌∙◌, arith}
 use Rattle.std.specs.Prelude.{if◌then◌else◌, ◌&&◌, nat_le, nat_lt}
-use Rattle.std.specs.List.{count_by}
-use Rattle.std.specs.List.Sorted.{IsNonDecreasingBy, IsPartitionPoint}
+use Rattle.pmt_laws.specs.Prelude.{count_by, IsNonDecreasingBy, IsPartitionPoint}
 use Rattle.std.proofs.lemmas.Bool.{cases_lt, le-leb, lt-leb, lt-ltb, le-ltb}
 use Rattle.std.proofs.lemmas.List.{get_or_default, take_all}
 use Rattle.std.proofs.lemmas.List.Sums.{count_by_more_yes, count_by_more_no}
-use Rattle.pmt_causes.specs.Counted.{counted}
+use Rattle.pmt_causes.specs.Late.{counted}
 
 -- none but those that are counted
 abbrev one : Bool → ℕ
 one b = if b then 1 else 0
-
-one-le : (b : Bool) → one b ≤ 1
-one-le true = omega arith
-one-le false = omega arith
-
-pub counted-le : (f : ℕ → Bool) (n : ℕ) → counted f n ≤ n
-counted-le f zero = omega arith
-counted-le f (suc n) = omega (arith, counted-le f n, one-le (f (suc n)))
 
 pub counted-mono : (f : ℕ → Bool) (m n : ℕ) → m ≤ n → counted f m ≤ counted f n
 counted-mono f m zero le = let e : m ≡ zero = omega arith in subst (λ k. counted f k ≤ 0) (sym e) (omega arith)

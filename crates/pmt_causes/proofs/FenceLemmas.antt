@@ -1,22 +1,14 @@
 -- The fences of each thread, event by event, and how many a store waits for.
 use Rattle.std.proofs.Common.{◌≡◌, ℕ, suc, ◌+◌, ◌-◌, ◌<◌, ◌≤◌, ◌⊎◌, inl, inr, Bool, true, false, cond, List, [], ◌∷◌, ◌++◌, length, map, min, get_or, set, get_or-set_same, get_or-set_other, Some, refl, sym, ap, subst, ◌∙◌, arith}
 use Rattle.std.specs.Prelude.{if◌then◌else◌, ◌&&◌, ◌==◌, nat_le, slice_get, replicate}
-use Rattle.std.specs.List.{count_by}
 use Rattle.std.proofs.lemmas.Bool.{cases_lt, cases_eq, eq-eqb, ne_eqb, le-leb, lt-leb}
 use Rattle.std.proofs.lemmas.List.{length-set, get_or-replicate, get_or-map, map-set}
 use Rattle.std.proofs.lemmas.List.Elements.{All-push}
 use Rattle.std.proofs.lemmas.List.Sums.{sum_by_push}
 use Rattle.std.proofs.lemmas.List.Sorted.{IsNonDecreasingBy-push, IsNonDecreasingBy-short}
-use Rattle.pmt_model.specs.declared.event.Event.{Event}
-use Rattle.pmt_model.specs.declared.event.Op.{Op}
-use Rattle.pmt_model.specs.declared.event.Op.TheVariants.{Store, Clwb, ClflushOpt, Clflush, Sfence, Mfence, IsPersist, IsOrderedBefore}
-use Rattle.pmt_model.specs.Values.{Written, line_of}
-use Rattle.pmt_model.specs.Machine.{Stores}
-use Rattle.pmt_model.specs.Traces.{Recording, event, act, act_of, IsAct}
-use Rattle.pmt_explain.specs.Saving.{IsSafePlace, TellsSafe}
-use Rattle.pmt_causes.specs.Counted.{counted}
-use Rattle.pmt_causes.specs.Late.{is_fence, is_fence_of, fences_between, IsWaited}
-use Rattle.pmt_causes.specs.Fences.{AreFencesBy, AreFences, list_by, with_fence, wait_of}
+use Rattle.pmt_laws.specs.Prelude.{Event, Op, Store, Clwb, ClflushOpt, Clflush, Sfence, Mfence, IsPersist, IsOrderedBefore, Written, line_of, Stores, Recording, event, act, act_of, IsAct, count_by}
+use Rattle.pmt_explain.specs.Following.{IsSafePlace, TellsSafe}
+use Rattle.pmt_causes.specs.Late.{counted, is_fence, is_fence_of, fences_between, IsWaited, AreFencesBy, AreFences, list_by, with_fence, wait_of}
 use Rattle.pmt_causes.proofs.CountedLemmas.{counted-between}
 
 abbrev one : Bool → ℕ

@@ -1,13 +1,10 @@
 -- The kind of a cause, by the next flush of the line.
 use Rattle.std.proofs.Common.{◌≡◌, ℕ, ◌<◌, ◌≤◌, inl, inr, length, refl, arith}
 use Rattle.std.proofs.lemmas.Bool.{cases_lt, lt-ltb, le-ltb}
-use Rattle.pmt_model.specs.Traces.{Recording}
-use Rattle.pmt_model.specs.Findings.{ByFlush}
-use Rattle.pmt_reasons.specs.declared.cause.Cause.{Cause}
+use Rattle.pmt_explain.specs.Prelude.{Recording, ByFlush, Cause, IsCause}
 use Rattle.pmt_reasons.specs.declared.cause.Cause.TheVariants as cause
-use Rattle.pmt_reasons.specs.Causes.{IsCause}
-use Rattle.pmt_explain.specs.Upcoming.{IsNextFlush}
-use Rattle.pmt_causes.specs.FailureKeys.{kind_of, cause_by}
+use Rattle.pmt_explain.specs.Following.{IsNextFlush}
+use Rattle.pmt_causes.specs.Groups.{kind_of, cause_by}
 
 pub cause-kind : (T : Recording) (l n x flush : ℕ) (c : Cause) → n ≤ length T.events → IsNextFlush T l x flush → IsCause T l n x c → cause_by n x flush ≡ kind_of c
 cause-kind T l n x flush cause.Later within next why = rw (lt-ltb n x why) refl

@@ -1,21 +1,10 @@
 -- The keys of failed assertions.
 use Rattle.std.proofs.Common.{◌≡◌, ℕ, ◌-◌, ◌<◌, ◌≤◌, Bool, true, false, List, [], ◌∷◌, ◌++◌, map, length, get_or, Option, None, Some, refl, sym, ap, subst, arith, true≢false}
 use Rattle.std.specs.Prelude.{MatchOption}
-use Rattle.std.specs.Option.{option_map}
 use Rattle.std.proofs.lemmas.List.{map-append}
 use Rattle.std.proofs.lemmas.List.Elements.{All-push}
-use Rattle.pmt_model.specs.declared.event.Event.{Event}
-use Rattle.pmt_model.specs.declared.event.Op.{Op}
-use Rattle.pmt_model.specs.declared.event.Op.TheVariants.{Store, Clwb, ClflushOpt, Clflush, Sfence, Mfence, IsPersist, IsOrderedBefore}
-use Rattle.pmt_model.specs.Values.{Span}
-use Rattle.pmt_model.specs.Machine.{Stores}
-use Rattle.pmt_model.specs.Traces.{Recording, event, history, count_at}
-use Rattle.pmt_model.specs.Fronts.{front_at}
-use Rattle.pmt_model.specs.Assertions.{PersistPasses, OrderedPasses}
+use Rattle.pmt_explain.specs.Prelude.{Event, Op, Store, Clwb, ClflushOpt, Clflush, Sfence, Mfence, IsPersist, IsOrderedBefore, Span, Stores, Recording, event, history, count_at, front_at, PersistPasses, OrderedPasses, option_map, Failure, Cause, IsLost, IsFailureOf, IsFailureAt, IsPersistFailure, IsOrderedFailure}
 use Rattle.pmt_laws.proofs.Histories.{act-within}
-use Rattle.pmt_reasons.specs.declared.failure.Failure.{Failure}
-use Rattle.pmt_reasons.specs.declared.cause.Cause.{Cause}
-use Rattle.pmt_reasons.specs.Failures.{IsLost, IsFailureOf, IsFailureAt, IsPersistFailure, IsOrderedFailure}
 use Rattle.pmt_reasons.proofs.CauseLemmas.{pending_by_fronts}
 use Rattle.pmt_reasons.proofs.CauseLaws.{cause_exists}
 use Rattle.pmt_reasons.proofs.FailureLaws.{persist_failure_fails, ordered_failure_fails}
@@ -27,8 +16,8 @@ use Rattle.pmt_causes.specs.declared.grouping.Keyed.{Keyed}
 use Rattle.pmt_causes.specs.declared.failure_keys.AssertionKind.{AssertionKind}
 use Rattle.pmt_causes.specs.declared.failure_keys.AssertionKind.TheVariants.{Persist, Ordered}
 use Rattle.pmt_causes.specs.declared.failure_keys.FailureKey.{FailureKey}
-use Rattle.pmt_causes.specs.FailureKeys.{kind_of, cause_by, IsAssertion, IsFailureKey, OfPersist, OfOrdered, Fails, IsKeyed, AreKeyed, key_by, with_keyed}
-use Rattle.pmt_explain.specs.Upcoming.{AreNextFlushes, ByStore}
+use Rattle.pmt_causes.specs.Groups.{kind_of, cause_by, IsAssertion, IsFailureKey, OfPersist, OfOrdered, Fails, IsKeyed, AreKeyed, key_by, with_keyed}
+use Rattle.pmt_explain.specs.Following.{AreNextFlushes, ByStore}
 use Rattle.pmt_explain.proofs.UpcomingLemmas.{next-on}
 use Rattle.pmt_causes.proofs.FlushingLemmas.{cause-kind}
 

@@ -4,15 +4,13 @@ use Rattle.std.specs.Prelude.{Option, slice_get, slice_index}
 use Rattle.std.proofs.lemmas.Bool.{cases_eq, eqb-true, false≢true}
 use Rattle.std.proofs.lemmas.List.{length-set}
 use Rattle.std.proofs.lemmas.Option.{slice_get-get_or, get_or_from_slice_get, slice_get_within}
-use Rattle.pmt_model.specs.declared.event.Event.{Event}
-use Rattle.pmt_model.specs.Values.{Layout}
-use Rattle.pmt_model.specs.Traces.{Recording, event}
+use Rattle.pmt_laws.specs.Prelude.{Event, Layout, Recording, event}
 use Rattle.pmt_causes.specs.declared.grouping.Keyed.{Keyed}
 use Rattle.pmt_causes.specs.declared.late.LateSpot.{LateSpot}
 use Rattle.pmt_causes.specs.declared.late.LateSpot.TheVariants.{Label, Line}
 use Rattle.pmt_causes.specs.contracts.late.LateSpotPartialEq.TheImpl as spot_eq
 use Rattle.pmt_causes.specs.Late.{IsWaited, late_items, spot_of, spot_of_event, spot_of_op, with_spot}
-use Rattle.pmt_causes.specs.Labels.{label_of}
+use Rattle.pmt_causes.specs.Groups.{label_of}
 
 -- spots that their test takes for the same are the same
 pub late-exact : (x y : LateSpot) → (spot_eq.ghosts).eq x y ≡ true → x ≡ y

@@ -1,11 +1,6 @@
 -- What dropped events of one group have in common.
 use Rattle.std.specs.Prelude.{ℕ, List, Option, None, Some}
-use Rattle.pmt_model.specs.Values.{Layout, line_of}
-use Rattle.pmt_model.specs.declared.event.Event.{Event}
-use Rattle.pmt_model.specs.declared.event.Op.{Op}
-use Rattle.pmt_model.specs.declared.event.Op.TheVariants.{Store, Clwb, ClflushOpt, Clflush, Sfence, Mfence, IsPersist, IsOrderedBefore}
-use Rattle.pmt_model.specs.Traces.{Recording, event}
-use Rattle.pmt_reasons.specs.declared.reason.Reason.{Reason}
+use Rattle.pmt_explain.specs.Prelude.{Layout, line_of, Event, Op, Store, Clwb, ClflushOpt, Clflush, Sfence, Mfence, IsPersist, IsOrderedBefore, Recording, event, Reason}
 use Rattle.pmt_reasons.specs.declared.reason.Reason.TheVariants as reason
 use Rattle.pmt_explain.specs.declared.dropped_event.Dropped.{Dropped}
 use Rattle.pmt_causes.specs.declared.grouping.Keyed.{Keyed}
@@ -16,7 +11,7 @@ use Rattle.pmt_causes.specs.declared.dropping.DropWord.TheVariants as word
 use Rattle.pmt_causes.specs.declared.dropping.ReasonKind.{ReasonKind}
 use Rattle.pmt_causes.specs.declared.dropping.ReasonKind.TheVariants as kind
 use Rattle.pmt_causes.specs.declared.dropping.DroppedKey.{DroppedKey}
-use Rattle.pmt_causes.specs.Labels.{label_of}
+use Rattle.pmt_causes.specs.Groups.{label_of}
 
 -- The reason without the event that makes it so.
 abbrev pub kind_of : Reason → ReasonKind

@@ -1,17 +1,44 @@
--- How long stores wait until they are safe.
-use Rattle.std.specs.Prelude.{◌≡◌, ℕ, zero, suc, ◌==◌, ◌&&◌, Bool, true, false, if◌then◌else◌, nat_lt, nat_le, List, [], ◌∷◌, ◌++◌, length, Option, None, Some, slice_get, slice_index}
-use Rattle.pmt_model.specs.Values.{Layout, Written, line_of}
-use Rattle.pmt_model.specs.Machine.{Stores}
-use Rattle.pmt_model.specs.declared.event.Event.{Event}
-use Rattle.pmt_model.specs.declared.event.Op.{Op}
-use Rattle.pmt_model.specs.declared.event.Op.TheVariants.{Store, Clwb, ClflushOpt, Clflush, Sfence, Mfence, IsPersist, IsOrderedBefore}
-use Rattle.pmt_model.specs.Traces.{Recording, event, act, IsAct}
-use Rattle.pmt_explain.specs.Saving.{IsSafePlace}
+-- How long stores wait until they are safe, by kinds of events, and the flushes and fences they wait for.
+use Rattle.std.specs.Prelude.{ℕ, zero, suc, ◌+◌, Bool, if◌then◌else◌, true, false, Option, None, Some, ◌≡◌, ◌==◌, ◌&&◌, nat_lt, nat_le, List, [], ◌∷◌, ◌++◌, length, slice_get, slice_index, ◌-◌, ◌≤◌, ◌<◌, min, slice_index_or, slice_set}
+use Rattle.pmt_laws.specs.Prelude.{Event, Op, Store, Clwb, ClflushOpt, Clflush, Sfence, Mfence, IsPersist, IsOrderedBefore, Layout, Written, line_of, Stores, Recording, event, act, IsAct, All, count_by, IsNonDecreasingBy}
+use Rattle.pmt_explain.specs.Following.{IsSafePlace}
 use Rattle.pmt_causes.specs.declared.grouping.Keyed.{Keyed}
 use Rattle.pmt_causes.specs.declared.late.LateSpot.{LateSpot}
 use Rattle.pmt_causes.specs.declared.late.LateSpot.TheVariants.{Label, Line}
-use Rattle.pmt_causes.specs.Counted.{counted}
-use Rattle.pmt_causes.specs.Labels.{label_of}
+use Rattle.pmt_causes.specs.Groups.{label_of}
+
+-- How many of the numbers from 1 to n pass.
+abbrev pub counted : (ℕ → Bool) → ℕ → ℕ
+counted passes zero = 0
+counted passes (suc n) = counted passes n + (if passes (suc n) then 1 else 0)
+
+-- ---- Kinds of events
+
+abbrev pub is_store : Op → Bool
+is_store (Store w) = true
+is_store (Clwb a) = false
+is_store (ClflushOpt a) = false
+is_store (Clflush a) = false
+is_store Sfence = false
+is_store Mfence = false
+is_store (IsPersist r) = false
+is_store (IsOrderedBefore r q) = false
+
+abbrev pub is_flush : Op → Bool
+is_flush (Store w) = false
+is_flush (Clwb a) = true
+is_flush (ClflushOpt a) = true
+is_flush (Clflush a) = true
+is_flush Sfence = false
+is_flush Mfence = false
+is_flush (IsPersist r) = false
+is_flush (IsOrderedBefore r q) = false
+
+abbrev pub op_passes : (Op → Bool) → Option Event → Bool
+op_passes is None = false
+op_passes is (Some e) = is e.op
+
+-- ---- How long stores wait until they are safe
 
 abbrev pub is_fence : Op → Bool
 is_fence (Store w) = false
@@ -83,3 +110,34 @@ late_items T labels waited (suc n) = with_spot (suc n) (spot_of T labels waited 
 -- The late stores of the trace, in their order, each with its spot.
 abbrev pub AreLateItems : Recording → List (Option ℕ) → List (Keyed LateSpot) → Type 0
 AreLateItems T labels items = (waited : List ℕ) × AreWaited T waited × (items ≡ late_items T labels waited (length T.events))
+
+-- ---- The fences of each thread, in order
+
+-- The numbers of the fences of thread t among the first n events: they rise, and up to each place are as many as there are fences.
+pub record AreFencesBy (T : Recording) (t n : ℕ) (list : List ℕ) : Type 0 where
+  pub order : IsNonDecreasingBy (λ k. k) list
+  pub within : All (λ k. k ≤ n) list
+  pub each : (q : ℕ) → count_by (λ k. nat_le k q) list ≡ counted (is_fence_of T t) (min q n)
+
+abbrev pub list_by : List (List ℕ) → ℕ → List ℕ
+list_by lists t = slice_index_or lists t []
+
+-- Those of all threads, by thread.
+pub record AreFences (T : Recording) (n : ℕ) (lists : List (List ℕ)) : Type 0 where
+  pub size : length lists ≡ 256
+  pub each : (t : ℕ) → t < 256 → AreFencesBy T t n (list_by lists t)
+
+-- The lists with event i of thread t, if it is a fence.
+abbrev pub with_fence : ℕ → Op → ℕ → List (List ℕ) → List (List ℕ)
+with_fence t op i lists = if is_fence op then slice_set lists t (list_by lists t ++ i ∷ []) else lists
+
+-- How many of these numbers are past i and below p, if the op is a store.
+abbrev pub wait_of : List ℕ → Op → ℕ → ℕ → ℕ
+wait_of list (Store w) i p = count_by (λ k. nat_le k (p - 1)) list - count_by (λ k. nat_le k i) list
+wait_of list (Clwb a) i p = 0
+wait_of list (ClflushOpt a) i p = 0
+wait_of list (Clflush a) i p = 0
+wait_of list Sfence i p = 0
+wait_of list Mfence i p = 0
+wait_of list (IsPersist r) i p = 0
+wait_of list (IsOrderedBefore r q) i p = 0

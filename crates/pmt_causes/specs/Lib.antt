@@ -1,12 +1,4 @@
-pub mod Numbers
-pub mod Ops
-pub mod Counted
-pub mod Dropped
-pub mod FailureKeys
-pub mod Fences
-pub mod Flushing
 pub mod Groups
-pub mod Labels
 pub mod Late
-pub mod LostCauses
+pub mod Dropped
 pub mod Writers

@@ -1,13 +1,9 @@
 //! Failed assertions, in groups.
 
 ghost use Rattle.std.specs.Prelude.{◌≡◌, ◌≤◌, length, IfOk, OnOk, MatchOption};
-ghost use Rattle.std.specs.Option.{option_map};
-ghost use Rattle.pmt_model.specs.Traces.{history};
-ghost use Rattle.pmt_model.specs.Assertions.{PersistPasses, OrderedPasses};
-ghost use Rattle.pmt_reasons.specs.Failures.{IsFailureAt, IsPersistFailure, IsOrderedFailure};
-ghost use Rattle.pmt_explain.specs.Saving.{AreSafePlaces};
-ghost use Rattle.pmt_causes.specs.FailureKeys.{AreFailureGroups, AreKeyed, IsFailureKey, key_by, with_keyed};
-ghost use Rattle.pmt_explain.specs.Upcoming.{AreNextFlushes};
+ghost use Rattle.pmt_explain.specs.Prelude.{history, PersistPasses, OrderedPasses, option_map, IsFailureAt, IsPersistFailure, IsOrderedFailure};
+ghost use Rattle.pmt_explain.specs.Following.{AreSafePlaces, AreNextFlushes};
+ghost use Rattle.pmt_causes.specs.Groups.{AreFailureGroups, AreKeyed, IsFailureKey, key_by, with_keyed};
 ghost use Rattle.pmt_causes.specs.Writers.{AreAllWriters};
 
 use crate::failure_keys::{AssertionKind, FailureKey, key_of};

@@ -1,7 +1,7 @@
 //! What failed assertions of one group have in common.
 
 ghost use Rattle.std.specs.Prelude.{◌≡◌};
-ghost use Rattle.pmt_causes.specs.FailureKeys.{cause_by, key_by, origin_of as origin_in};
+ghost use Rattle.pmt_causes.specs.Groups.{cause_by, key_by, origin_of as origin_in};
 
 use crate::labels::label_of;
 use pmt_explain::number_of;

@@ -1,12 +1,10 @@
 //! Stores that are saved late.
 
 ghost use Rattle.std.specs.Prelude.{◌≡◌, ◌+◌, ◌<◌, if◌then◌else◌, ◌∷◌, [], ◌++◌, length, map, replicate, nat_le, IfOk, IsTrue, OnOk};
-ghost use Rattle.std.specs.List.{count_by};
-ghost use Rattle.std.specs.List.Sorted.{IsNonDecreasingBy};
-ghost use Rattle.pmt_explain.specs.Saving.{AreSafePlaces};
-ghost use Rattle.pmt_causes.specs.Fences.{AreFences, list_by, wait_of, with_fence};
-ghost use Rattle.pmt_causes.specs.Labels.{label_of as label_in};
-ghost use Rattle.pmt_causes.specs.Late.{AreLateItems, AreWaited, is_fence, late_spot as late_spot_in, spot_of_op as spot_of_op_in, with_spot};
+ghost use Rattle.pmt_laws.specs.Prelude.{count_by, IsNonDecreasingBy};
+ghost use Rattle.pmt_explain.specs.Following.{AreSafePlaces};
+ghost use Rattle.pmt_causes.specs.Late.{AreFences, list_by, wait_of, with_fence, AreLateItems, AreWaited, is_fence, late_spot as late_spot_in, spot_of_op as spot_of_op_in, with_spot};
+ghost use Rattle.pmt_causes.specs.Groups.{label_of as label_in};
 
 use crate::grouping::Keyed;
 use crate::labels::label_of;

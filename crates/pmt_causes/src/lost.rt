@@ -2,9 +2,7 @@
 
 ghost use Rattle.std.specs.Prelude.{◌≡◌, IfOk};
 ghost use Rattle.std.specs.List.{filter_map};
-ghost use Rattle.pmt_causes.specs.FailureKeys.{kind_of as kind_in};
-ghost use Rattle.pmt_causes.specs.Groups.{AreGrouped};
-ghost use Rattle.pmt_causes.specs.LostCauses.{lost_item};
+ghost use Rattle.pmt_causes.specs.Groups.{kind_of as kind_in, AreGrouped, lost_item};
 
 use crate::failure_keys::{CauseKind, Origin, origin_of};
 use crate::grouping::{Group, Keyed, groups};

@@ -1,3 +1,4 @@
+pub mod FenceLemmas
 pub mod LossLemmas
 pub mod ScratchLemmas
 pub mod SignLemmas

@@ -1,16 +1,14 @@
 -- Lines of stores that an event flushes or an assertion has a byte of.
 use Rattle.std.proofs.Common.{◌≡◌, ℕ, ◌+◌, ◌<◌, ◌⊎◌, inl, inr, Bool, false, List, [], ◌∷◌, length, take, get_or, Option, None, Some, refl, sym, ap, subst, ◌∙◌}
 use Rattle.std.specs.Prelude.{cond, unwrap_or}
-use Rattle.std.specs.List.{filter, list_any}
 use Rattle.std.proofs.lemmas.Bool.{cases_eq, eq-eqb, ne_eqb}
 use Rattle.std.proofs.lemmas.List.{take_more}
 use Rattle.std.proofs.lemmas.List.Folds.{list_any_more}
-use Rattle.pmt_model.specs.Traces.{Recording}
-use Rattle.pmt_model.specs.Selections.{Has}
+use Rattle.pmt_laws.specs.Prelude.{Recording, Has, filter, list_any}
 use Rattle.pmt_hints.specs.Claiming.{Claims, asked_at, claim_at, is_claimed_line, or_so}
 use Rattle.pmt_hints.proofs.ClaimLemmas.{or_so-twice}
 use Rattle.pmt_hints.proofs.NumberLemmas.{has-push}
-use Rattle.pmt_entries.specs.Scratch.{AreAsked, event_touches, is_noted, is_touched, is_touched_line, later, line_at}
+use Rattle.pmt_entries.specs.Sites.{AreAsked, event_touches, is_noted, is_touched, is_touched_line, later, line_at}
 
 -- one item more
 pub any-more : {X : Type 0} (P : X → Bool) (xs : List X) (i : ℕ) (d : X) (o a b : Option Bool) → i < length xs → b ≡ or_so (P (get_or xs i d)) a → a ≡ or_so (list_any P (take i xs)) o → b ≡ or_so (list_any P (take (i + 1) xs)) o

@@ -1,16 +1,14 @@
 -- The first of the hints that are signs of a site.
 use Rattle.std.proofs.Common.{◌≡◌, ℕ, ◌+◌, ◌<◌, Bool, true, false, List, [], ◌∷◌, length, drop, get_or, Option, None, Some, refl, sym, ap, subst, ◌∙◌, arith}
 use Rattle.std.specs.Prelude.{◌||◌, cond, if◌then◌else◌}
-use Rattle.std.specs.List.{position_from}
+use Rattle.pmt_laws.specs.Prelude.{position_from, Recording}
 use Rattle.std.proofs.lemmas.Bool.{le-ltb, lt-ltb}
 use Rattle.std.proofs.lemmas.Iterator.Adapters.{position_from-zero}
 use Rattle.std.proofs.lemmas.List.{drop_all, drop_more}
-use Rattle.pmt_model.specs.Traces.{Recording}
-use Rattle.pmt_causes.specs.declared.failure_keys.Origin.{Origin}
-use Rattle.pmt_hints.specs.declared.hint.Hint.{Hint}
+use Rattle.pmt_entries.specs.Prelude.{Origin, Hint}
 use Rattle.pmt_entries.specs.declared.signs.Mark.{Mark}
 use Rattle.pmt_entries.specs.declared.signs.Mark.TheVariants.{Place}
-use Rattle.pmt_entries.specs.Signs.{Signs, earlier, is_mark, is_sign, line_mark, mark_of, sign_at, sign_in}
+use Rattle.pmt_entries.specs.Sites.{Signs, earlier, is_mark, is_sign, line_mark, mark_of, sign_at, sign_in}
 
 -- one item before the rest of a list
 pub position-before : {X : Type 0} (p : X → Bool) (xs : List X) (i : ℕ) (d : X) (o : Option ℕ) → i < length xs → o ≡ position_from p (i + 1) (drop (i + 1) xs) → (if p (get_or xs i d) then Some i else o) ≡ position_from p i (drop i xs)

@@ -1,10 +1,3 @@
 pub mod Entries
-pub mod Hints
-pub mod Judging
-pub mod Left
-pub mod Losses
-pub mod Scratch
-pub mod Signs
 pub mod Sites
-pub mod Verdicts
-pub mod Weights
+pub mod Prelude

@@ -1,7 +1,7 @@
 //! Sites that miss a minority of their stores, by whole call paths.
 
 ghost use Rattle.std.specs.Prelude.{◌≡◌, IfOk};
-ghost use Rattle.pmt_fates.specs.Paths.{misses as misses_in};
+ghost use Rattle.pmt_fates.specs.Places.{misses as misses_in};
 ghost use Rattle.pmt_entries.specs.Sites.{is_mixed as is_mixed_in, misses_few as misses_few_in, mixed_paths as mixed_paths_in};
 
 use pmt_fates::PlaceRow;

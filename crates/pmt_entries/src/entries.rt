@@ -1,10 +1,8 @@
 //! What is told of a trace, what weighs most first.
 
 ghost use Rattle.std.specs.Prelude.{◌≡◌, IfOk, OnOk, map};
-ghost use Rattle.std.specs.List.{enumerate_from, range_with_len};
-ghost use Rattle.pmt_model.specs.Analyses.{IsVerdicts};
-ghost use Rattle.pmt_entries.specs.Entries.{AreByWeight, AreContrastsIf, AreEntries, entries_in_turn, failure_entry, loss_entry};
-ghost use Rattle.pmt_entries.specs.Verdicts.{is_any_with};
+ghost use Rattle.pmt_laws.specs.Prelude.{enumerate_from, range_with_len, IsVerdicts, list_any};
+ghost use Rattle.pmt_entries.specs.Entries.{AreByWeight, AreContrastsIf, AreEntries, entries_in_turn, failure_entry, loss_entry, is_any_with, is_open_hint as is_open_hint_in};
 
 use crate::claimed::claimed_of;
 use crate::hints::hint_entries;
@@ -15,7 +13,7 @@ use crate::verdict::{Verdict, verdict_of};
 use crate::weight::{Weight, rank_of};
 use pmt_causes::Group;
 use pmt_fates::PlaceTable;
-use pmt_hints::{Contrast, Hint, contrasts_of};
+use pmt_hints::{Contrast, Hint, HintKind, contrasts_of};
 use pmt_model::{OutOfMemory, Trace, Verdict as Judged};
 use std::alloc::Global;
 
@@ -48,7 +46,7 @@ pub struct Entries {
     pub sites: Vec<Site>,
     /// These in groups, by their first sites: members are indexes of `sites`.
     pub losses: Vec<Group<LossKey>>,
-    /// Of each hint how often what is stored to while its flush is open is stored to with nothing open.
+    /// Of each hint how often what is stored to while its flush is open is stored to with nothing open. Empty if no hint is of such flushes.
     pub contrasts: Vec<Contrast>,
     /// All entries, by weight; those of one weight failures first, then losses, hints, and sites and paths saved one fence late.
     pub entries: Vec<Entry>,
@@ -60,7 +58,7 @@ pub struct Entries {
 /// these hints. Its events have these numbers of innermost frames; these stores are told as never persisted, and each event waits for so
 /// many fences.
 ///
-/// It takes a few looks at each event and a look-up at each row and hint.
+/// It takes a look-up at each row and hint, and a few looks at each event where a site loses or delays stores, or there is a hint.
 ///
 /// # Errors
 /// Where memory was refused.
@@ -78,7 +76,7 @@ pub fn entries_of(
     requires { IsVerdicts trace.now verdicts.now }
     ensures { IfOk result (AreEntries trace.now verdicts.now failures frames.now table.now hints.now told.now waited.now) }
 {
-    let claimed = claimed_of(alloc, trace, verdicts, waited)?;
+    let claimed = claimed_of(alloc, trace, verdicts, table.places.as_slice())?;
     let sites = sites_of(
         alloc,
         trace,
@@ -113,15 +111,28 @@ pub fn entries_of(
     })
 }
 
-// The contrasts of these hints. The trace is looked at only where there are some.
+// The contrasts of these hints. The trace is looked at only where one is of flushes that are open at a store: no other has any.
 fn contrasts_if(alloc: Global, trace: &Trace, hints: &[Hint]) -> Result<Vec<Contrast>, OutOfMemory>
     ensures { IfOk result (λ contrasts. AreContrastsIf trace.now hints.now contrasts.items) }
 {
-    if hints.is_empty() {
+    if !is_any_open(hints) {
         return Ok(Vec::new(alloc));
     }
     let contrasts = contrasts_of(alloc, trace, hints)?;
     Ok(contrasts)
+}
+
+// Whether one of these hints is of flushes that are open at a store.
+fn is_any_open(hints: &[Hint]) -> bool
+    ensures { result ≡ list_any is_open_hint_in hints.now }
+{
+    hints.iter().any(|hint| is_open_hint(hint))
+}
+
+fn is_open_hint(hint: &Hint) -> bool
+    ensures { result ≡ is_open_hint_in hint.now }
+{
+    matches!(hint.kind, HintKind::OpenAtStore)
 }
 
 // All entries of these, before they are sorted.

@@ -3,8 +3,8 @@
 ghost use Rattle.std.specs.Prelude.{◌≡◌, IfOk, map, nat_eq};
 ghost use Rattle.std.specs.List.{enumerate_from, filter_map};
 ghost use Rattle.std.specs.HashSet.{IsFromIterResult, contains};
-ghost use Rattle.pmt_fates.specs.Rows.{same_place};
-ghost use Rattle.pmt_entries.specs.Hints.{contrast_of, hint_entry as entry_of_hint, hint_entry_if, is_stored_after as is_stored_after_in};
+ghost use Rattle.pmt_fates.specs.Places.{same_place};
+ghost use Rattle.pmt_entries.specs.Entries.{contrast_of, hint_entry as entry_of_hint, hint_entry_if, is_stored_after as is_stored_after_in};
 
 use crate::entries::{Entry, Subject};
 use crate::place_sets::Places;

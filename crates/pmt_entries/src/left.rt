@@ -3,8 +3,8 @@
 ghost use Rattle.std.specs.Prelude.{◌≡◌, IfOk, filter, map};
 ghost use Rattle.std.specs.HashSet.{IsFromIterResult};
 ghost use Rattle.std.specs.List.{enumerate_from};
-ghost use Rattle.pmt_fates.specs.Rows.{same_place};
-ghost use Rattle.pmt_entries.specs.Left.{is_left as is_left_in, is_path_told, is_told, left_entry, left_path_entry};
+ghost use Rattle.pmt_fates.specs.Places.{same_place};
+ghost use Rattle.pmt_entries.specs.Entries.{is_left as is_left_in, is_path_told, is_told, left_entry, left_path_entry};
 
 use crate::entries::{Entry, Subject};
 use crate::place_sets::{Places, place_of};

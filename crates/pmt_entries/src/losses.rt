@@ -3,7 +3,7 @@
 ghost use Rattle.std.specs.Prelude.{◌≡◌, IfOk, OnOk, map};
 ghost use Rattle.std.specs.List.{enumerate_from, list_any};
 ghost use Rattle.pmt_causes.specs.Groups.{first_in};
-ghost use Rattle.pmt_entries.specs.Losses.{AreLosses, IsByFirst, is_suspect_at, loss_item, loss_key, loss_weight};
+ghost use Rattle.pmt_entries.specs.Entries.{AreLosses, IsByFirst, is_suspect_at, loss_item, loss_key, loss_weight};
 
 use crate::sites::Site;
 use crate::weight::{Weight, weight_of_site};

@@ -1,10 +1,9 @@
 //! Sets of places.
 
-ghost use Rattle.std.specs.Prelude.{◌≡◌, ℕ, map, IfOk};
-ghost use Rattle.std.specs.HashSet.{IsFromIterResult};
+ghost use Rattle.std.specs.Prelude.{◌≡◌, IfOk};
 ghost use Rattle.pmt_model.specs.Traces.{event};
 ghost use Rattle.pmt_fates.specs.Places.{origin_in};
-ghost use Rattle.pmt_fates.specs.Rows.{same_place};
+ghost use Rattle.pmt_entries.specs.Sites.{AreAt};
 
 use pmt_causes::{Origin, origin_of};
 use pmt_model::{OutOfMemory, Trace};
@@ -21,7 +20,7 @@ pub(crate) fn places_of(
     frames: &[Option<u64>],
     numbers: &[u64],
 ) -> Result<Places, OutOfMemory>
-    ensures { IfOk result (IsFromIterResult same_place (map (λ (i : ℕ). origin_in frames.now i (event trace.now i)) numbers.now)) }
+    ensures { IfOk result (AreAt trace.now frames.now numbers.now) }
 {
     numbers
         .iter()

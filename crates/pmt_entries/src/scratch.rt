@@ -1,14 +1,13 @@
 //! Stores that may be scratch: never persisted, in lines that nothing flushes or asserts after the first of these stores.
 
-ghost use Rattle.std.specs.Prelude.{◌≡◌, ℕ, filter, map, nat_eq, IfOk, OnOk};
+ghost use Rattle.std.specs.Prelude.{◌≡◌, ℕ, true, filter, map, nat_eq, IfOk, OnOk};
 ghost use Rattle.std.specs.HashSet.{IsFromIterResult};
 ghost use Rattle.std.specs.List.{list_any};
-ghost use Rattle.pmt_fates.specs.Standings.{standing};
+ghost use Rattle.pmt_fates.specs.Places.{standing};
 ghost use Rattle.pmt_hints.specs.Claiming.{claim_at, or_so};
-ghost use Rattle.pmt_entries.specs.Judging.{lone_by};
-ghost use Rattle.pmt_entries.specs.Scratch.{AreAsked, address_at, event_touches, first_line as first_line_in, is_all, is_noted as is_noted_in, is_same as is_same_in, is_touched, later, line_at, loses_one_address as loses_one_address_in, op_address as op_address_in, op_touches};
+ghost use Rattle.pmt_entries.specs.Sites.{AreAt, lone_by, AreAsked, address_at, event_touches, first_line as first_line_in, is_all, is_noted as is_noted_in, is_same as is_same_in, is_touched, later, line_at, loses_one_address as loses_one_address_in, op_address as op_address_in, op_touches};
 
-use crate::place_sets::Places;
+use crate::place_sets::{Places, places_of};
 use pmt_fates::{PlaceRow, Standing, standing_of};
 use pmt_hints::claims::{Claims, ask_for, is_line_claimed, note_line, note_range};
 use pmt_model::{Addr, Event, Format, Op, OutOfMemory, Trace, line_of};
@@ -76,13 +75,35 @@ fn is_same(first: Option<Addr>, last: Option<Addr>) -> bool
     first.get() == last.get()
 }
 
-// Those of these stores to lines that an event after the first of them flushes, or an assertion after it has a byte of: what clears lines
-// before is no use of them.
-pub(crate) fn touched_stores(
+// The sites that lose one of these stores to a touched line. They are looked for only where a site with one of these rows loses all that it
+// stores to one address: else none is scratch.
+pub(crate) fn touched_places(
     alloc: Global,
     trace: &Trace,
+    frames: &[Option<u64>],
+    rows: &[PlaceRow],
     stores: &[u64],
-) -> Result<Vec<u64>, OutOfMemory>
+) -> Result<Places, OutOfMemory>
+    ensures { IfOk result (λ places. list_any (loses_one_address_in trace.now) rows.now ≡ true → AreAt trace.now frames.now (filter (is_touched trace.now stores.now) stores.now) places) }
+{
+    if !has_one_address(trace, rows) {
+        return Ok(HashSet::new(alloc));
+    }
+    let touched = touched_stores(alloc, trace, stores)?;
+    let places = places_of(alloc, trace, frames, touched.as_slice())?;
+    Ok(places)
+}
+
+// Whether one of the sites loses all that it stores, twice or more, to one address first and last.
+fn has_one_address(trace: &Trace, rows: &[PlaceRow]) -> bool
+    ensures { result ≡ list_any (loses_one_address_in trace.now) rows.now }
+{
+    rows.iter().any(|row| loses_one_address(trace, row))
+}
+
+// Those of these stores to lines that an event after the first of them flushes, or an assertion after it has a byte of: what clears lines
+// before is no use of them.
+fn touched_stores(alloc: Global, trace: &Trace, stores: &[u64]) -> Result<Vec<u64>, OutOfMemory>
     ensures { IfOk result (λ found. found.items ≡ filter (is_touched trace.now stores.now) stores.now) }
 {
     if stores.is_empty() {

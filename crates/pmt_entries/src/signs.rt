@@ -4,7 +4,7 @@ ghost use Rattle.std.specs.Prelude.{◌≡◌, if◌then◌else◌, Some, IfOk, 
 ghost use Rattle.std.specs.List.{position_from};
 ghost use Rattle.pmt_entries.specs.declared.signs.Mark.{Mark};
 ghost use Rattle.pmt_entries.specs.declared.signs.Mark.TheVariants.{Place};
-ghost use Rattle.pmt_entries.specs.Signs.{earlier as earlier_in, is_mark, line_mark as line_mark_in, mark_of as mark_in, op_line, sign_at as sign_in_map};
+ghost use Rattle.pmt_entries.specs.Sites.{earlier as earlier_in, is_mark, line_mark as line_mark_in, mark_of as mark_in, op_line, sign_at as sign_in_map};
 
 use pmt_causes::Origin;
 use pmt_explain::number_of;

@@ -1,15 +1,14 @@
 //! Sites that lose or delay stores, and what tells whether that is meant.
 
 ghost use Rattle.std.specs.Prelude.{◌≡◌, filter, map, IfOk};
-ghost use Rattle.pmt_model.specs.Traces.{event};
-ghost use Rattle.pmt_fates.specs.Paths.{misses as misses_in};
-ghost use Rattle.pmt_entries.specs.Judging.{contrast_by, scratch_by, claimed_by, site_by};
-ghost use Rattle.pmt_entries.specs.Sites.{AreSites, first_missed as first_missed_in, thread_in};
+ghost use Rattle.pmt_laws.specs.Prelude.{list_any, event};
+ghost use Rattle.pmt_fates.specs.Places.{misses as misses_in};
+ghost use Rattle.pmt_entries.specs.Sites.{contrast_by, scratch_by, claimed_by, site_by, AreSites, first_missed as first_missed_in, thread_in};
 
-use crate::claimed::unclaimed;
+use crate::claimed::unclaimed_places;
 use crate::contrast::{misses, misses_few, mixed_paths};
 use crate::place_sets::{Places, places_of};
-use crate::scratch::{Lines, first_line, loses_all, scratch_lines, touched_stores};
+use crate::scratch::{Lines, first_line, loses_all, scratch_lines, touched_places};
 use crate::signs::{Signs, sign_of, signs_of};
 use pmt_explain::{number_of, own_fences};
 use pmt_fates::{PlaceRow, PlaceTable};
@@ -50,11 +49,12 @@ pub(crate) struct Facts {
     pub(crate) has_paths: bool,
     // The sites that have a path by which some stores are lost or late and others are in time.
     pub(crate) mixed: Places,
-    // The sites that lose a store to a line that an event after the first lost one flushes, or an assertion has a byte of.
+    // The sites that lose a store to a line that an event after the first lost store of the trace flushes, or an assertion after it has a
+    // byte of; none where no site loses all that it stores to one address.
     pub(crate) touched: Places,
     // The first lines of the sites that are scratch by themselves.
     pub(crate) scratch: Lines,
-    // The sites with an unclaimed store that two fences or more of its thread leave unsafe.
+    // The sites with an unclaimed store that two fences or more of its thread leave unsafe; none where no site is only late.
     pub(crate) unclaimed: Places,
 }
 
@@ -64,7 +64,9 @@ pub(crate) struct Facts {
 /// persisted; of each event, in order, `waited` tells for how many fences it waits, and `claimed` whether it is a store that an assertion
 /// claims.
 ///
-/// It takes two looks at each event, and another one, with a look-up at each flush and each line of an assertion, where a store is told.
+/// It takes one look at each row. Where one loses or delays a store, it takes another look at each event and each hint; where one loses all
+/// that it stores to one address, one more at each event, with a look-up at each flush and each line of an assertion; and where one delays
+/// stores and loses none, one more.
 ///
 /// # Errors
 /// Where memory was refused.
@@ -81,16 +83,17 @@ pub fn sites_of(
     ensures { IfOk result (λ sites. AreSites trace.now frames.now table.now hints.now told.now waited.now claimed.now sites.items) }
 {
     let rows = table.places.as_slice();
+    if !is_any_missed(rows) {
+        return Ok(Vec::new(alloc));
+    }
     let fences = own_fences(alloc, trace)?;
     let signs = signs_of(alloc, trace, fences.as_slice(), hints)?;
     let paths = table.paths.as_slice();
     let mixed = mixed_paths(alloc, paths)?;
     let mixed = places_of(alloc, trace, frames, mixed.as_slice())?;
-    let touched = touched_stores(alloc, trace, told)?;
-    let touched = places_of(alloc, trace, frames, touched.as_slice())?;
+    let touched = touched_places(alloc, trace, frames, rows, told)?;
     let scratch = scratch_lines(alloc, trace, &touched, rows)?;
-    let unclaimed = unclaimed(alloc, waited, claimed)?;
-    let unclaimed = places_of(alloc, trace, frames, unclaimed.as_slice())?;
+    let unclaimed = unclaimed_places(alloc, trace, frames, rows, waited, claimed)?;
     let facts = Facts {
         fences,
         signs,
@@ -101,6 +104,13 @@ pub fn sites_of(
         unclaimed,
     };
     sites_by(alloc, trace, &facts, rows)
+}
+
+// Whether one of these sites loses or delays a store.
+fn is_any_missed(rows: &[PlaceRow]) -> bool
+    ensures { result ≡ list_any misses_in rows.now }
+{
+    rows.iter().any(|row| misses(row))
 }
 
 // The sites of these rows that lose or delay stores.
@@ -163,7 +173,8 @@ fn has_contrast(facts: &Facts, row: &PlaceRow) -> bool
     facts.has_paths && misses_few(row) && !facts.mixed.contains(&row.place)
 }
 
-// Whether it loses all that it stores, in lines that nothing flushes or asserts, and first to one of the lines of scratch.
+// Whether it loses all that it stores, in lines that nothing flushes or asserts after the first lost store of the trace, and first to one of
+// the lines of scratch.
 fn is_scratch(trace: &Trace, facts: &Facts, row: &PlaceRow) -> bool
     ensures { result ≡ scratch_by trace.now facts.now row.now }
 {

@@ -1,7 +1,7 @@
 //! The verdict on a trace.
 
 ghost use Rattle.std.specs.Prelude.{◌≡◌};
-ghost use Rattle.pmt_entries.specs.Verdicts.{is_any_failing as is_any_failing_in, is_any_lost as is_any_lost_in, is_any_stored as is_any_stored_in, verdict};
+ghost use Rattle.pmt_entries.specs.Entries.{is_any_failing as is_any_failing_in, is_any_lost as is_any_lost_in, is_any_stored as is_any_stored_in, verdict};
 
 use crate::entries::{Entry, is_any_of};
 use crate::weight::Weight;

@@ -1,7 +1,7 @@
 //! How much an entry weighs.
 
 ghost use Rattle.std.specs.Prelude.{◌≡◌};
-ghost use Rattle.pmt_entries.specs.Weights.{hint_weight, is_mostly_clear as is_mostly_clear_in, rank, site_weight};
+ghost use Rattle.pmt_entries.specs.Entries.{hint_weight, is_mostly_clear as is_mostly_clear_in, rank, site_weight};
 
 use crate::sites::Site;
 use pmt_fates::LEAST_EVENTS;

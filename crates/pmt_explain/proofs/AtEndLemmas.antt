@@ -5,24 +5,15 @@ use Rattle.std.proofs.Math.ListN.{length-set, replicate}
 use Rattle.std.proofs.lemmas.List.{length-replicate, get_or-replicate}
 use Rattle.std.proofs.lemmas.Bool.{cases_lt, cases_eq, false≢true}
 use Rattle.std.proofs.lemmas.Option.{slice_get_within}
-use Rattle.pmt_model.specs.declared.event.Event.{Event}
-use Rattle.pmt_model.specs.Values.{Layout}
-use Rattle.pmt_model.specs.Machine.{Act, Stores, Flushes, Clflushes, Fences, Asserts}
-use Rattle.pmt_model.specs.Traces.{Recording, IsTrace, IsAct, act, count_at}
-use Rattle.pmt_model.specs.Fronts.{front_at}
-use Rattle.pmt_model.specs.Findings.{IsFlushOf, ByFlush, ByClflush}
+use Rattle.pmt_explain.specs.Prelude.{Event, Layout, Act, Stores, Flushes, Clflushes, Fences, Asserts, Recording, IsTrace, IsAct, act, count_at, front_at, IsFlushOf, ByFlush, ByClflush, Cause, Later, Unflushed, Unfenced, IsFirstFence, IsUnfenced, IsCause}
 use Rattle.pmt_laws.proofs.Histories.{act-unique, count-mono}
-use Rattle.pmt_reasons.specs.declared.cause.Cause.{Cause}
-use Rattle.pmt_reasons.specs.declared.cause.Cause.TheVariants.{Later, Unflushed, Unfenced}
-use Rattle.pmt_reasons.specs.Causes.{IsFirstFence, IsUnfenced, IsCause}
 use Rattle.pmt_reasons.proofs.CauseLemmas.{safe-clflush, safe-fence}
 use Rattle.pmt_reasons.proofs.CauseLaws.{no_flush_of, no_fence}
 use Rattle.pmt_reasons.proofs.ScanLemmas.{IsThreadFit, thread-fits, each-at}
-use Rattle.pmt_explain.specs.CauseOf.{IsCauseOf}
+use Rattle.pmt_explain.specs.CauseOf.{IsCauseOf, before_flush, cause_before, fence_before, cause_told}
 use Rattle.pmt_explain.proofs.CauseOfLemmas.{cause-found}
 use Rattle.pmt_explain.proofs.FollowingLemmas.{told-set}
-use Rattle.pmt_explain.specs.AtEnd.{before_flush, cause_before, fence_before, cause_told}
-use Rattle.pmt_explain.specs.Completed.{fenced_before}
+use Rattle.pmt_explain.specs.Crashes.{fenced_before}
 
 -- the cause at place n of a store to the line at place i, or none where it would be safe
 abbrev pub IsCauseAfter : Recording → ℕ → ℕ → ℕ → Option Cause → Type 0

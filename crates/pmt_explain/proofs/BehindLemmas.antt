@@ -3,23 +3,16 @@ use Rattle.std.proofs.Common.{◌≡◌, ◌≢◌, ◌↔◌, ℕ, suc, ◌-◌
 use Rattle.std.specs.Prelude.{replicate}
 use Rattle.std.proofs.lemmas.Bool.{cases_lt, cases_eq}
 use Rattle.std.proofs.lemmas.List.{length-set, get_or-replicate, length-replicate}
-use Rattle.pmt_model.specs.Values.{Written}
-use Rattle.pmt_model.specs.Machine.{Act, Stores, Flushes, Clflushes, Fences, Asserts, count}
-use Rattle.pmt_model.specs.Traces.{Recording, IsAct, history, count_at}
-use Rattle.pmt_model.specs.Findings.{IsFlushOf, ByFlush, ByClflush}
+use Rattle.pmt_explain.specs.Prelude.{Written, Act, Stores, Flushes, Clflushes, Fences, Asserts, count, Recording, IsAct, history, count_at, IsFlushOf, ByFlush, ByClflush, HasFlushed}
 use Rattle.pmt_laws.proofs.Histories.{act-unique, act-within, history-act}
 use Rattle.pmt_laws.proofs.BoxLemmas.{count-store_other}
-use Rattle.pmt_reasons.specs.Reasons.{HasFlushed}
 use Rattle.pmt_reasons.proofs.CauseLaws.{no_flush_of}
-use Rattle.pmt_explain.specs.Following.{past_of}
-use Rattle.pmt_explain.specs.Saving.{TellsSafe}
-use Rattle.pmt_explain.specs.Upcoming.{IsNextFlush, TellsNextFlush, ByStore, ByFlushOf}
+use Rattle.pmt_explain.specs.Following.{past_of, TellsSafe, IsNextFlush, TellsNextFlush, ByStore, ByFlushOf}
 use Rattle.pmt_explain.proofs.FirstLemmas.{first-here, first-over}
 use Rattle.pmt_explain.proofs.SavingLemmas.{pending-before}
 use Rattle.pmt_explain.proofs.UpcomingLemmas.{within-flush}
 use Rattle.pmt_explain.specs.declared.behind.Behind.{Behind}
-use Rattle.pmt_explain.specs.Behind.{IsBehind}
-use Rattle.pmt_explain.specs.Reasoning.{AreSafeFrom}
+use Rattle.pmt_explain.specs.Dropping.{IsBehind, AreSafeFrom}
 
 -- whether a thread has flushed since its last fence, after one more event
 flushed-over : (T : Recording) (t n : ℕ) (a : Act) → IsAct T (suc n) a → ((l : ℕ) → a ≢ Flushes t l) → a ≢ Fences t → HasFlushed T t (suc n) ↔ HasFlushed T t (suc (suc n))

@@ -1,19 +1,17 @@
 -- The last stores to bytes by blocks: one block more, and a store that is noted.
 use Rattle.std.proofs.Common.{◌≡◌, ◌≢◌, ℕ, ◌⊎◌, ◌+◌, ◌*◌, ◌/◌, ◌%◌, ◌-◌, ◌<◌, ◌≤◌, inl, inr, ◌==◌, Bool, true, false, not, List, [], ◌∷◌, ◌++◌, length, get_or, set, Some, refl, sym, ap, subst, ◌∙◌, eqb-true, arith}
 use Rattle.std.specs.Prelude.{◌&&◌, if◌then◌else◌, nat_eq, nat_le, nat_lt, slice_get}
-use Rattle.std.specs.List.{list_any, IsDistinct}
 use Rattle.std.proofs.lemmas.Bool.{and_from, and_parts, cases_eq, eq-eqb, leb-true, le-leb, lt-ltb, ltb-true}
 use Rattle.std.proofs.lemmas.List.{get_or_append_left, get_or_default, get_or_push, get_or-set_other, get_or-set_same, length-append, length-set}
 use Rattle.std.proofs.lemmas.Option.{slice_get_within, same_Some}
-use Rattle.pmt_model.specs.Values.{Written, IsStore}
-use Rattle.pmt_model.specs.Machine.{writes}
+use Rattle.pmt_laws.specs.Prelude.{Written, IsStore, writes, list_any, IsDistinct}
 use Rattle.pmt_tables.specs.Slots.{IsSlotOf, insert_line}
 use Rattle.pmt_tables.proofs.ListLemmas.{one-slot, push-cases, get-left, among}
 use Rattle.pmt_tables.specs.Lasts.{last_at, is_in, with_store}
 use Rattle.pmt_tables.proofs.LineLemmas.{byte-from_writes}
 use Rattle.pmt_explain.specs.declared.blocks.Blocks.{Blocks}
 use Rattle.pmt_explain.specs.declared.blocks.Stores.{Stores}
-use Rattle.pmt_explain.specs.Blocks.{AreBlocks, byte_at, IsAdded, IsKept, Notes, Opens, stores_at, Tells}
+use Rattle.pmt_explain.specs.LastStores.{AreBlocks, byte_at, IsAdded, IsKept, Notes, Opens, stores_at, Tells}
 
 -- where a block stands, its byte is told
 pub told-at : (t : Blocks) (b x p : ℕ) → AreBlocks t → Tells t b x → IsSlotOf (b / 64) p t.places → byte_at t.words p b ≡ x

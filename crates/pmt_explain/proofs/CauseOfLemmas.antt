@@ -1,15 +1,8 @@
 -- The cause of the store that an event is.
 use Rattle.std.proofs.Common.{◌≡◌, ◌≤◌, ℕ, Option, None, Some, ap, subst, arith}
 use Rattle.std.specs.Prelude.{MatchOption}
-use Rattle.pmt_model.specs.declared.event.Event.{Event}
-use Rattle.pmt_model.specs.declared.event.Op.TheVariants.{Store}
-use Rattle.pmt_model.specs.Values.{Written, line_of}
-use Rattle.pmt_model.specs.Machine.{Stores}
-use Rattle.pmt_model.specs.Traces.{Recording, IsAct, act_of, event, count_at}
-use Rattle.pmt_model.specs.Fronts.{front_at}
+use Rattle.pmt_explain.specs.Prelude.{Event, Store, Written, line_of, Stores, Recording, IsAct, act_of, event, count_at, front_at, Cause, IsPending, IsCause}
 use Rattle.pmt_laws.proofs.Histories.{act-unique}
-use Rattle.pmt_reasons.specs.declared.cause.Cause.{Cause}
-use Rattle.pmt_reasons.specs.Causes.{IsPending, IsCause}
 use Rattle.pmt_reasons.proofs.CauseLemmas.{pending_by_fronts}
 use Rattle.pmt_explain.specs.CauseOf.{IsCauseOf}
 

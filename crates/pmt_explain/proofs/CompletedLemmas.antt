@@ -4,17 +4,11 @@ use Rattle.std.specs.Prelude.{◌&&◌, if◌then◌else◌, slice_get}
 use Rattle.std.proofs.Math.ListN.{length-set, replicate}
 use Rattle.std.proofs.lemmas.List.{get_or-set_same, get_or-set_other, get_or-replicate, length-replicate}
 use Rattle.std.proofs.lemmas.Bool.{false≢true, cases_lt, cases_eq, and_parts, and_from, eq-eqb, ne_eqb}
-use Rattle.pmt_model.specs.declared.event.Event.{Event}
-use Rattle.pmt_model.specs.Values.{Layout}
-use Rattle.pmt_model.specs.Machine.{Act, Stores, Flushes, Clflushes, Fences, Asserts}
-use Rattle.pmt_model.specs.Traces.{Recording, IsTrace, IsAct, act, count_at}
-use Rattle.pmt_model.specs.Fronts.{front_at}
+use Rattle.pmt_explain.specs.Prelude.{Event, Layout, Act, Stores, Flushes, Clflushes, Fences, Asserts, Recording, IsTrace, IsAct, act, count_at, front_at, persisted_at}
 use Rattle.pmt_laws.proofs.Histories.{act-unique, act-within, count-mono}
 use Rattle.pmt_laws.proofs.FrontLemmas.{front-reached, completed-le_front}
-use Rattle.pmt_reasons.specs.Failures.{persisted_at}
 use Rattle.pmt_reasons.proofs.ScanLemmas.{IsThreadFit, thread-fits, each-at}
-use Rattle.pmt_explain.specs.Completed.{IsCompleted, AtOnce, Fenced, IsLastCompleted, SafeBeforeLastFlush, Numbers, flush_at, completes, fenced_before}
-use Rattle.pmt_explain.specs.Keepers.{persisted_by}
+use Rattle.pmt_explain.specs.Crashes.{IsCompleted, AtOnce, Fenced, IsLastCompleted, SafeBeforeLastFlush, Numbers, flush_at, completes, fenced_before, persisted_by}
 
 -- what a complete flush marked is safe
 safe-least : (T : Recording) (l n k : ℕ) → (k ≡ 0) ⊎ IsCompleted T l n k → count_at T l k ≤ front_at T l n

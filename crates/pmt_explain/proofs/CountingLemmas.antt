@@ -4,17 +4,12 @@ use Rattle.std.specs.Prelude.{if◌then◌else◌, nat_eq, nat_le, slice_get}
 use Rattle.std.proofs.lemmas.Bool.{cases_lt, cases_eq, eq-eqb, ne_eqb, le-leb, lt-leb}
 use Rattle.std.specs.Map.{keys_of}
 use Rattle.indexmap.specs.IndexMap.{keys, insert_entry}
-use Rattle.pmt_model.specs.declared.event.Event.{Event}
-use Rattle.pmt_model.specs.Values.{Layout, Written}
-use Rattle.pmt_model.specs.Machine.{Act, Stores, Flushes, Clflushes, Fences, Asserts, count}
-use Rattle.pmt_model.specs.Traces.{Recording, IsAct, act, history, count_at, has_line, with_line, lines_of}
+use Rattle.pmt_laws.specs.Prelude.{Event, Layout, Written, Act, Stores, Flushes, Clflushes, Fences, Asserts, count, Recording, IsAct, act, history, count_at, has_line, with_line, lines_of}
 use Rattle.pmt_laws.proofs.Histories.{history-act, history-step}
 use Rattle.pmt_reasons.proofs.CauseLemmas.{rank-store}
 use Rattle.pmt_explain.specs.declared.crash.Crash.{Crash}
 use Rattle.pmt_explain.specs.declared.lines.LineCount.{LineCount}
-use Rattle.pmt_explain.specs.Crashes.{line_count}
-use Rattle.pmt_explain.specs.Keepers.{persisted_to, IsCrashAt}
-use Rattle.pmt_explain.specs.Counting.{Counts, count_in, raised, lines_after, count_after, count_by, AreCountsBy}
+use Rattle.pmt_explain.specs.Crashes.{line_count, persisted_to, IsCrashAt, Counts, count_in, raised, lines_after, count_after, count_by, AreCountsBy}
 
 -- a key that is put into a map stands among its keys as a line in a list of lines
 pub keys-inserted : (l : ℕ) (v : LineCount) (es : List (ℕ × LineCount)) → keys_of (insert_entry nat_eq es l v) ≡ with_line l (keys_of es)

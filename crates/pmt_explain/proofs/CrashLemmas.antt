@@ -3,13 +3,9 @@ use Rattle.std.proofs.Common.{◌≡◌, ℕ, ◌<◌, ◌≤◌, ◌⊎◌, inl
 use Rattle.std.specs.Prelude.{◌==◌, if◌then◌else◌}
 use Rattle.std.proofs.lemmas.Bool.{cases_lt}
 use Rattle.std.proofs.lemmas.List.{take_all}
-use Rattle.pmt_model.specs.Machine.{count}
-use Rattle.pmt_model.specs.Traces.{Recording, act, history}
-use Rattle.pmt_model.specs.Fronts.{front}
-use Rattle.pmt_reasons.specs.Failures.{persisted_at}
+use Rattle.pmt_explain.specs.Prelude.{count, Recording, act, history, front, persisted_at}
 use Rattle.pmt_explain.specs.declared.crash.Crash.{Crash}
-use Rattle.pmt_explain.specs.Completed.{Numbers, flush_at, IsLastCompleted}
-use Rattle.pmt_explain.specs.Keepers.{IsCrashAt}
+use Rattle.pmt_explain.specs.Crashes.{Numbers, flush_at, IsLastCompleted, IsCrashAt}
 use Rattle.pmt_explain.proofs.CompletedLemmas.{persisted-by, persisted-within}
 
 -- a crash from the last complete flushes

@@ -1,14 +1,9 @@
 -- The list of the dropped events, event by event.
 use Rattle.std.proofs.Common.{◌≡◌, ◌↔◌, ℕ, suc, ◌+◌, ◌<◌, ◌≤◌, ◌⊎◌, inl, inr, List, [], ◌∷◌, ◌++◌, length, map, Option, None, Some, refl, sym, subst, arith}
 use Rattle.std.proofs.lemmas.Bool.{cases_lt}
-use Rattle.pmt_model.specs.Machine.{Act, Flushes, Clflushes, Fences}
-use Rattle.pmt_model.specs.Traces.{Recording, IsAct}
-use Rattle.pmt_model.specs.Selections.{IsRising, Has}
-use Rattle.pmt_model.specs.Keeping.{IsKeep, IsKept}
+use Rattle.pmt_explain.specs.Prelude.{Act, Flushes, Clflushes, Fences, Recording, IsAct, IsRising, Has, IsKeep, IsKept, Reason, IsReason, OfFlush, OfClflush, OfFence}
 use Rattle.pmt_laws.proofs.KeepLemmas.{keep_is_selection}
 use Rattle.pmt_laws.proofs.Histories.{act-within}
-use Rattle.pmt_reasons.specs.declared.reason.Reason.{Reason}
-use Rattle.pmt_reasons.specs.Reasons.{IsReason, OfFlush, OfClflush, OfFence}
 use Rattle.pmt_reasons.proofs.ReasonLemmas.{reason_is_unique}
 use Rattle.pmt_reasons.proofs.ReasonLaws.{reason_exists}
 use Rattle.pmt_explain.specs.declared.dropped_event.Dropped.{Dropped}

@@ -1,16 +1,9 @@
 -- The first lost and kept stores make the failure of an assertion.
 use Rattle.std.proofs.Common.{◌≡◌, ℕ, Option, None, Some, refl, subst, MatchOption}
-use Rattle.pmt_model.specs.Values.{Span, Written}
-use Rattle.pmt_model.specs.Machine.{Stores}
-use Rattle.pmt_model.specs.Traces.{Recording, IsAct, history}
-use Rattle.pmt_model.specs.Assertions.{PersistPasses, OrderedPasses}
+use Rattle.pmt_explain.specs.Prelude.{Span, Written, Stores, Recording, IsAct, history, PersistPasses, OrderedPasses, ByteStore, Failure, IsLost, IsLastIn, IsFirstLost, IsKeptWithout, IsPersistFailure, IsOrderedFailure}
 use Rattle.pmt_laws.proofs.Histories.{act-unique}
-use Rattle.pmt_reasons.specs.declared.failure.ByteStore.{ByteStore}
-use Rattle.pmt_reasons.specs.declared.failure.Failure.{Failure}
-use Rattle.pmt_reasons.specs.Failures.{IsLost, IsLastIn, IsFirstLost, IsKeptWithout, IsPersistFailure, IsOrderedFailure}
 use Rattle.pmt_reasons.proofs.FailureLaws.{persist-passes, ordered-passes}
-use Rattle.pmt_explain.specs.Losing.{Anywhere, IsFirstAmong, IsFirstIn}
-use Rattle.pmt_explain.specs.Keeping.{KeepsWithout, IsFirstCrash}
+use Rattle.pmt_explain.specs.Crashes.{Anywhere, IsFirstAmong, IsFirstIn, KeepsWithout, IsFirstCrash}
 
 pub first-lost : (T : Recording) (i n : ℕ) (A : Span) (full : Option ℕ) (x : ByteStore) → IsFirstAmong T i A (IsLost T n full) Anywhere x → IsFirstLost T i A n full x
 first-lost T i n A full x f = record { is_last = f.is_last; is_lost = f.has; first = λ z is lost. f.first z is tt lost }

@@ -3,31 +3,22 @@ use Rattle.std.proofs.Common.{◌≡◌, ◌≢◌, ℕ, ◌+◌, ◌*◌, ◌-�
 use Rattle.std.specs.Prelude.{IsTrue, nat_lt, ◌||◌, unwrap_or}
 use Rattle.std.proofs.lemmas.Bool.{cases_lt, cases_eq, lt-ltb, le-ltb, ltb-true, eq-eqb, ne_eqb, eqb-true, or_cases, false≢true}
 use Rattle.std.proofs.lemmas.Option.{same_Some}
-use Rattle.pmt_model.specs.Values.{Span, Written, Layout, line_of}
-use Rattle.pmt_model.specs.Formats.{IsFormat}
-use Rattle.pmt_model.specs.Machine.{Stores}
-use Rattle.pmt_model.specs.Traces.{Recording, IsTrace, IsAct, history, count_at}
-use Rattle.pmt_model.specs.Findings.{last_store_number}
+use Rattle.pmt_explain.specs.Prelude.{Span, Written, Layout, line_of, IsFormat, Stores, Recording, IsTrace, IsAct, history, count_at, last_store_number, ByteStore, IsLastIn, IsNoLater, persisted_at}
 use Rattle.pmt_laws.proofs.Histories.{act-unique, act-within, count-mono}
 use Rattle.pmt_laws.proofs.OverwrittenLemmas.{last_store_number-is}
-use Rattle.pmt_tables.specs.Lasts.{last_at, IsLeastAbove, IsNewest}
-use Rattle.pmt_tables.specs.Written.{last_number}
+use Rattle.pmt_tables.specs.Lasts.{last_at, IsLeastAbove, IsNewest, last_number}
 use Rattle.pmt_tables.proofs.LineLemmas.{IsSize, size-of_format, store-of_trace, writes-line}
 use Rattle.pmt_tables.proofs.LineLemmas.IsSize.{Bytes32, Bytes64, Bytes128, Bytes256}
 use Rattle.pmt_tables.specs.Slots.{IsSlotOf}
 use Rattle.pmt_explain.specs.declared.last_writers.LastWriters.{LastWriters}
 use Rattle.pmt_explain.specs.declared.blocks.Stores.{Stores as BlockStores}
-use Rattle.pmt_explain.specs.Blocks.{stores_at}
+use Rattle.pmt_explain.specs.LastStores.{stores_at}
 use Rattle.pmt_explain.specs.Writers.{AreStores, Knows}
 use Rattle.pmt_explain.proofs.BlockLemmas.{told-at, told-none}
-use Rattle.pmt_reasons.specs.declared.failure.ByteStore.{ByteStore}
-use Rattle.pmt_reasons.specs.Failures.{IsLastIn, IsNoLater, persisted_at}
 use Rattle.pmt_explain.specs.declared.first_in.Search.{Search}
 use Rattle.pmt_explain.specs.declared.wanted.Wanted.{Wanted}
 use Rattle.pmt_explain.specs.declared.wanted.Wanted.TheVariants.{Lost, Off}
-use Rattle.pmt_explain.specs.FirstIn.{IsSearch, range_of, IsFirstBelow, GoesOn, IsWordIn, IsBlockIn}
-use Rattle.pmt_explain.specs.Losing.{comes_before, store_bound, Picks, IsFirstIn, Anywhere}
-use Rattle.pmt_explain.specs.Wanting.{Wants}
+use Rattle.pmt_explain.specs.Crashes.{IsSearch, range_of, IsFirstBelow, GoesOn, IsWordIn, IsBlockIn, comes_before, store_bound, Picks, IsFirstIn, Anywhere, Wants}
 
 -- ---- Which byte of a store comes first
 

@@ -3,16 +3,9 @@ use Rattle.std.proofs.Common.{◌≡◌, ◌≢◌, ℕ, ◌≤◌, inl, inr, Bo
 use Rattle.std.specs.Prelude.{◌==◌, if◌then◌else◌}
 use Rattle.std.proofs.lemmas.Bool.{cases_eq, ne_eqb}
 use Rattle.std.proofs.lemmas.Option.{none-some, same_Some}
-use Rattle.pmt_model.specs.Values.{Span, Written}
-use Rattle.pmt_model.specs.Machine.{Stores}
-use Rattle.pmt_model.specs.Traces.{Recording, IsAct, count_at}
-use Rattle.pmt_model.specs.Fronts.{front_at}
+use Rattle.pmt_explain.specs.Prelude.{Span, Written, Stores, Recording, IsAct, count_at, front_at, ByteStore, Failure, persisted_at, IsLastIn, IsLost, IsNoLater}
 use Rattle.pmt_laws.proofs.Histories.{count-mono, front-mono}
-use Rattle.pmt_reasons.specs.declared.failure.ByteStore.{ByteStore}
-use Rattle.pmt_reasons.specs.declared.failure.Failure.{Failure}
-use Rattle.pmt_reasons.specs.Failures.{persisted_at, IsLastIn, IsLost, IsNoLater}
-use Rattle.pmt_explain.specs.Losing.{Anywhere, IsFirstAmong, IsFirstIn}
-use Rattle.pmt_explain.specs.Keeping.{IsStoreOff, KeepsWithout, IsCrashAfter, IsFirstCrash}
+use Rattle.pmt_explain.specs.Crashes.{Anywhere, IsFirstAmong, IsFirstIn, IsStoreOff, KeepsWithout, IsCrashAfter, IsFirstCrash}
 use Rattle.pmt_explain.proofs.LosingLemmas.{front-le-persisted}
 
 -- a crash that comes later, with the same full line, leaves no fewer stores persisted

@@ -4,19 +4,13 @@ use Rattle.std.specs.Prelude.{◌&&◌, if◌then◌else◌, unwrap_or, nat_le, 
 use Rattle.std.proofs.lemmas.List.{take_all, drop_all}
 use Rattle.std.proofs.lemmas.Option.{same_Some, slice_get_within}
 use Rattle.std.proofs.lemmas.Bool.{false≢true, cases_lt, leb-true, le-leb, lt-leb, lt-ltb, le-ltb}
-use Rattle.pmt_model.specs.declared.event.Event.{Event}
-use Rattle.pmt_model.specs.Values.{Layout, Span, Written}
-use Rattle.pmt_model.specs.Machine.{Act, Stores, Flushes, Clflushes, Fences, Asserts, writes, image_of}
-use Rattle.pmt_model.specs.Traces.{Recording, IsAct, act, act_of, history, count_at}
+use Rattle.pmt_explain.specs.Prelude.{Event, Layout, Span, Written, Act, Stores, Flushes, Clflushes, Fences, Asserts, writes, image_of, Recording, IsAct, act, act_of, history, count_at, persisted_at}
 use Rattle.pmt_laws.proofs.Histories.{act-unique, act-within, history-act, history-suc, history-step, length-history, count-mono}
-use Rattle.pmt_reasons.specs.Failures.{persisted_at}
 use Rattle.pmt_reasons.proofs.CauseLemmas.{rank-store, rank-above}
 use Rattle.pmt_explain.specs.declared.crash.Crash.{Crash}
 use Rattle.pmt_explain.specs.declared.bytes.StoredByte.{StoredByte}
 use Rattle.pmt_explain.specs.declared.bytes.CrashByte.{CrashByte}
-use Rattle.pmt_explain.specs.Crashes.{IsPersistedStore, IsLastPersisted, value_of, IsCrashByte, AreCrashBytes}
-use Rattle.pmt_explain.specs.Keepers.{persisted_to, IsCrashAt}
-use Rattle.pmt_explain.specs.Kept.{keeps, last_kept, AreLastKept, IsReadOf, AreReadOf, IsWrittenBy}
+use Rattle.pmt_explain.specs.Crashes.{IsPersistedStore, IsLastPersisted, value_of, IsCrashByte, AreCrashBytes, persisted_to, IsCrashAt, keeps, last_kept, AreLastKept, IsReadOf, AreReadOf, IsWrittenBy}
 
 -- a choice behind unwrap_or
 choice-unwrapped : (t : Bool) (m : ℕ) (o : Option ℕ) → unwrap_or (if t then Some m else o) 0 ≡ (if t then m else unwrap_or o 0)

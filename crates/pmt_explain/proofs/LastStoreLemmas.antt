@@ -4,13 +4,7 @@ use Rattle.std.specs.Prelude.{if◌then◌else◌, unwrap_or, nat_le, nat_lt, sl
 use Rattle.std.proofs.Math.ListN.{length-set}
 use Rattle.std.proofs.lemmas.List.{get_or-set_same, get_or-set_other}
 use Rattle.std.proofs.lemmas.Bool.{cases_lt, cases_eq, and_parts, and_from, ltb-true, lt-ltb, leb-true, le-leb}
-use Rattle.pmt_model.specs.declared.event.Event.{Event}
-use Rattle.pmt_model.specs.declared.event.Op.{Op}
-use Rattle.pmt_model.specs.declared.event.Op.TheVariants.{Store, Clwb, ClflushOpt, Clflush, Sfence, Mfence, IsPersist, IsOrderedBefore}
-use Rattle.pmt_model.specs.Values.{Layout, Written}
-use Rattle.pmt_model.specs.Machine.{Act, writes}
-use Rattle.pmt_model.specs.Traces.{Recording, act_of, act, history}
-use Rattle.pmt_model.specs.Findings.{last_store_number}
+use Rattle.pmt_laws.specs.Prelude.{Event, Op, Store, Clwb, ClflushOpt, Clflush, Sfence, Mfence, IsPersist, IsOrderedBefore, Layout, Written, Act, writes, Recording, act_of, act, history, last_store_number}
 use Rattle.pmt_laws.proofs.Histories.{history-suc, length-history}
 use Rattle.pmt_explain.specs.LastStores.{AreLastStores, written_by}
 

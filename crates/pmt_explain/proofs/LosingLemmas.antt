@@ -1,10 +1,8 @@
 -- What a crash leaves persisted.
 use Rattle.std.proofs.Common.{ℕ, ◌≤◌, ◌==◌, Option, None, Some, arith}
 use Rattle.std.proofs.lemmas.Bool.{cond_both}
-use Rattle.pmt_model.specs.Traces.{Recording, history, count_at}
-use Rattle.pmt_model.specs.Fronts.{front_at}
+use Rattle.pmt_explain.specs.Prelude.{Recording, history, count_at, front_at, persisted_at}
 use Rattle.pmt_laws.proofs.Histories.{front-le-count}
-use Rattle.pmt_reasons.specs.Failures.{persisted_at}
 
 -- no line has fewer stores persisted than are safe
 pub front-le-persisted : (T : Recording) (n l : ℕ) (full : Option ℕ) → front_at T l n ≤ persisted_at T n full l

@@ -3,22 +3,15 @@ use Rattle.std.proofs.Common.{◌≡◌, ℕ, suc, ◌+◌, ◌-◌, ◌^◌, �
 use Rattle.std.specs.Prelude.{slice_get, All}
 use Rattle.std.proofs.lemmas.Bool.{cases_eq}
 use Rattle.std.proofs.lemmas.Option.{none-some, same_Some, slice_get-get_or}
-use Rattle.pmt_model.specs.Values.{Written}
-use Rattle.pmt_model.specs.Machine.{Stores, Flushes}
-use Rattle.pmt_model.specs.Traces.{Recording, IsAct}
+use Rattle.pmt_explain.specs.Prelude.{Written, Stores, Flushes, Recording, IsAct, Cause, Later, Unflushed, Unfenced, IsCause, IsFirstFence}
 use Rattle.pmt_laws.proofs.Histories.{act-unique, act-within}
-use Rattle.pmt_reasons.specs.declared.cause.Cause.{Cause}
-use Rattle.pmt_reasons.specs.declared.cause.Cause.TheVariants.{Later, Unflushed, Unfenced}
-use Rattle.pmt_reasons.specs.Causes.{IsCause, IsFirstFence}
 use Rattle.pmt_reasons.proofs.CauseLaws.{first_fence-unique, cause_is_unique, cause_exists}
 use Rattle.pmt_explain.specs.declared.lost_grouping.LostGroup.{LostGroup}
 use Rattle.pmt_explain.specs.declared.lost_grouping.Key.{Key}
 use Rattle.pmt_explain.specs.declared.lost_grouping.Key.TheVariants.{Flush, Line}
 use Rattle.pmt_explain.specs.declared.lost_grouping.Places.{Places}
-use Rattle.pmt_explain.specs.CauseOf.{IsCauseOf}
-use Rattle.pmt_explain.specs.AtEnd.{TellCauses}
-use Rattle.pmt_explain.specs.Grouping.{Picks}
-use Rattle.pmt_explain.specs.LostGroups.{IsLostFor, IsLostStore, IsInGroup, TellsStores, AreLostGroups, IsLostAlone, key_for, group_key, place_in, with_store, AddsStore}
+use Rattle.pmt_explain.specs.CauseOf.{IsCauseOf, TellCauses}
+use Rattle.pmt_explain.specs.Grouping.{Picks, IsLostFor, IsLostStore, IsInGroup, TellsStores, AreLostGroups, IsLostAlone, key_for, group_key, place_in, with_store, AddsStore}
 use Rattle.pmt_explain.proofs.GroupingLemmas.{picks-more, picks-other, picks-length, groups-told, get-last, first-more, IsGathered, places-within, gathered-adds}
 
 -- no store is lost because it comes after the end

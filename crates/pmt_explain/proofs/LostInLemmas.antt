@@ -2,23 +2,15 @@
 use Rattle.std.proofs.Common.{◌≡◌, ◌↔◌, ℕ, ◌+◌, ◌-◌, ◌<◌, ◌≤◌, None, Some, ◌∙◌, inl, inr, Bool, true, false, eqb, List, [], ◌∷◌, ◌++◌, length, min, Contains, Option, refl, sym, ap, subst, arith, get_or}
 use Rattle.std.specs.Prelude.{IsTrue, IsSorted, IsPermutation, unwrap_or, if◌then◌else◌}
 use Rattle.std.specs.Ordering.{nat_cmp}
-use Rattle.std.specs.List.Sorted.{IsStrictlyIncreasing}
-use Rattle.std.specs.List.{dedup}
 use Rattle.std.proofs.lemmas.Bool.{cases_lt, false≢true}
 use Rattle.std.proofs.lemmas.List.Elements.{Contains-append_left, Contains-append_right, Contains-append_cases}
 use Rattle.std.proofs.lemmas.List.Kept.{Contains-dedup_nat, Contains-from_dedup}
 use Rattle.std.proofs.lemmas.List.Sorted.{Contains-permutation, IsPermutation-sym}
 use Rattle.std.proofs.lemmas.Map.Keys.{IsStrictlyIncreasing-dedup}
-use Rattle.pmt_model.specs.Values.{Span}
-use Rattle.pmt_model.specs.Machine.{Act}
-use Rattle.pmt_model.specs.Traces.{Recording, history, count_at}
-use Rattle.pmt_model.specs.Findings.{last_store_number}
-use Rattle.pmt_model.specs.Machine.{Stores}
+use Rattle.pmt_explain.specs.Prelude.{Span, Act, Recording, history, count_at, last_store_number, Stores, IsStrictlyIncreasing, dedup, ByteStore, IsLastIn, IsLost}
 use Rattle.pmt_laws.proofs.Histories.{act-within}
-use Rattle.pmt_reasons.specs.declared.failure.ByteStore.{ByteStore}
-use Rattle.pmt_reasons.specs.Failures.{IsLastIn, IsLost}
 use Rattle.pmt_explain.specs.LastStores.{AreLastStores, AreLastIn}
-use Rattle.pmt_explain.specs.Losing.{IsLostAmong, AreLostAmong, IsLostIn, AreLostIn}
+use Rattle.pmt_explain.specs.Crashes.{IsLostAmong, AreLostAmong, IsLostIn, AreLostIn}
 use Rattle.pmt_explain.proofs.CrashLemmas.{history-min, persisted-same}
 
 -- where a last store to a byte of A stands in the list

@@ -3,16 +3,13 @@ use Rattle.std.proofs.Common.{◌≡◌, ℕ, suc, zero, ◌+◌, ◌-◌, ◌^�
 use Rattle.std.specs.Prelude.{slice_get, take, nat_eq, All, IsTrue, nat_le, nat_lt}
 use mir.Val.{bool_byte}
 use Rattle.std.specs.Map.{lookup}
-use Rattle.std.specs.List.{starts_with}
 use Rattle.std.proofs.lemmas.Bool.Decides.{Decides-eqb}
 use Rattle.std.proofs.lemmas.Slice.Eq.{starts_is}
 use Rattle.std.proofs.lemmas.List.{take_rest}
 use Rattle.std.proofs.lemmas.Bool.{cases_eq, cases_Bool, and_parts, and_from, ltb-true, lt-ltb, leb-true, le-leb}
 use Rattle.std.proofs.lemmas.Option.{none-some, slice_get-get_or, slice_get_within}
 use Rattle.indexmap.specs.IndexMap.{get, IsEmpty}
-use Rattle.pmt_model.specs.Values.{Written}
-use Rattle.pmt_model.specs.Machine.{Stores, writes}
-use Rattle.pmt_model.specs.Traces.{Recording, IsAct}
+use Rattle.pmt_laws.specs.Prelude.{Written, Stores, writes, Recording, IsAct, starts_with}
 use Rattle.pmt_laws.proofs.Histories.{act-unique}
 use Rattle.pmt_explain.specs.declared.overwritten_grouping.Overwriting.{Overwriting}
 use Rattle.pmt_explain.specs.declared.overwritten_grouping.OverwrittenGroup.{OverwrittenGroup}

@@ -1,7 +1,6 @@
 -- When the stores that a flush marks are safe.
 use Rattle.std.proofs.Common.{◌≡◌, ℕ, ◌≤◌, ◌⊎◌, inl, inr, refl, arith}
-use Rattle.pmt_model.specs.Traces.{Recording, count_at}
-use Rattle.pmt_model.specs.Fronts.{front_at, IsCompleted}
+use Rattle.pmt_laws.specs.Prelude.{Recording, count_at, front_at, IsCompleted}
 use Rattle.pmt_laws.proofs.FrontLemmas.{completed-le_front, fronts_are_greatest}
 use Rattle.pmt_explain.specs.Following.{IsCompleteBy, ByFence, ByItself}
 

@@ -3,23 +3,14 @@ use Rattle.std.proofs.Common.{◌≡◌, ◌≢◌, ℕ, zero, suc, ◌+◌, ◌
 use Rattle.std.specs.Prelude.{nat_lt, if◌then◌else◌, slice_get}
 use Rattle.std.proofs.lemmas.Bool.{cases_lt, eq-eqb, ltb-true, lt-ltb}
 use Rattle.std.proofs.lemmas.Bool.Decides.{eqb_tells}
-use Rattle.pmt_model.specs.Machine.{Act, Stores, Flushes, Clflushes, Fences, Asserts}
-use Rattle.pmt_model.specs.Traces.{Recording, IsAct, count_at}
-use Rattle.pmt_model.specs.Fronts.{front_at}
-use Rattle.pmt_model.specs.Findings.{IsFlushOf, ByFlush, ByClflush}
-use Rattle.pmt_model.specs.Selections.{IsRising, Has, always_stays}
-use Rattle.pmt_model.specs.Keeping.{IsKept, Stays}
+use Rattle.pmt_explain.specs.Prelude.{Act, Stores, Flushes, Clflushes, Fences, Asserts, Recording, IsAct, count_at, front_at, IsFlushOf, ByFlush, ByClflush, IsRising, Has, always_stays, IsKept, Stays, Reason, IsReason, OfFlush, OfClflush, OfFence, IsFlushReason, IsFenceReason, IsMarking, IsNextFence, IsOvertaken, HasFlushed}
 use Rattle.pmt_laws.proofs.Histories.{act-unique, act-within}
-use Rattle.pmt_reasons.specs.declared.reason.Reason.{Reason}
 use Rattle.pmt_reasons.specs.declared.reason.Reason.TheVariants.{Safe, Unfenced, Repeated, Overtaken, Empty, Useless}
-use Rattle.pmt_reasons.specs.Reasons.{IsReason, OfFlush, OfClflush, OfFence, IsFlushReason, IsFenceReason, IsMarking, IsNextFence, IsOvertaken, HasFlushed}
 use Rattle.pmt_reasons.proofs.ReasonLaws.{reason_exists}
 use Rattle.pmt_reasons.proofs.ReasonLemmas.{reason-flush, clflush-reason-safe, fence-reasons}
-use Rattle.pmt_explain.specs.Following.{IsFirst, past_of, IsFenceAfter}
-use Rattle.pmt_explain.specs.Upcoming.{AreNextFlushes, ByFlushOf, IsNextFlush}
+use Rattle.pmt_explain.specs.Following.{IsFirst, past_of, IsFenceAfter, AreNextFlushes, ByFlushOf, IsNextFlush}
 use Rattle.pmt_explain.proofs.UpcomingLemmas.{next-on}
-use Rattle.pmt_explain.specs.Dropping.{is_number, has_at, IsPast}
-use Rattle.pmt_explain.specs.Reasoning.{AreSafeFrom, IsFlushAfter, fence_reason, flushes_by, marking_reason}
+use Rattle.pmt_explain.specs.Dropping.{is_number, has_at, IsPast, AreSafeFrom, IsFlushAfter, fence_reason, flushes_by, marking_reason}
 
 same-number : (k l : ℕ) → (k == l) ≡ true → k ≡ l
 same-number k l e = elim (eqb_tells k l) [ inl x ↦ x.1 | inr x ↦ let f = sym e ∙ x.0 in absurd (cc) ]

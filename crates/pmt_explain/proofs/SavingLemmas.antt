@@ -3,18 +3,12 @@ use Rattle.std.proofs.Common.{◌≡◌, ◌↔◌, ℕ, zero, suc, ◌-◌, ◌
 use Rattle.std.specs.Prelude.{IsTrue, nat_lt, if◌then◌else◌}
 use Rattle.std.proofs.lemmas.Bool.{cases_lt, ltb-true, lt-ltb}
 use Rattle.std.proofs.lemmas.Option.{slice_get-get_or}
-use Rattle.pmt_model.specs.Values.{Written}
-use Rattle.pmt_model.specs.Machine.{Stores, Flushes, Clflushes}
-use Rattle.pmt_model.specs.Traces.{Recording, IsAct, count_at}
-use Rattle.pmt_model.specs.Fronts.{front_at}
+use Rattle.pmt_explain.specs.Prelude.{Written, Stores, Flushes, Clflushes, Recording, IsAct, count_at, front_at, IsPending, IsLost}
 use Rattle.pmt_laws.proofs.Histories.{act-unique, act-within, count-mono, front-mono}
-use Rattle.pmt_reasons.specs.Causes.{IsPending}
-use Rattle.pmt_reasons.specs.Failures.{IsLost}
 use Rattle.pmt_reasons.proofs.CauseLemmas.{pending_by_fronts, rank-store, rank-above, marks-later}
 use Rattle.pmt_explain.specs.declared.ahead.Ahead.{Ahead}
 use Rattle.pmt_explain.specs.Numbers.{number_at}
-use Rattle.pmt_explain.specs.Following.{past_of, IsCompleteBy, ByFence, ByItself, IsCompletedAfter, IsAhead}
-use Rattle.pmt_explain.specs.Saving.{IsSafePlace, TellsSafe, AreSafePlaces, loses}
+use Rattle.pmt_explain.specs.Following.{past_of, IsCompleteBy, ByFence, ByItself, IsCompletedAfter, IsAhead, IsSafePlace, TellsSafe, AreSafePlaces, loses}
 use Rattle.pmt_explain.proofs.FirstLemmas.{first-same}
 use Rattle.pmt_explain.proofs.ReachLemmas.{complete-front, front-complete}
 

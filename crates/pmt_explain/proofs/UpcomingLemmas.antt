@@ -3,17 +3,11 @@ use Rattle.std.proofs.Common.{◌≡◌, ◌≢◌, ℕ, suc, ◌-◌, ◌<◌, 
 use Rattle.std.specs.Prelude.{◌==◌, if◌then◌else◌}
 use Rattle.std.proofs.lemmas.Bool.{cases_eq, eq-eqb, ne_eqb}
 use Rattle.std.proofs.lemmas.Option.{slice_get-get_or}
-use Rattle.pmt_model.specs.Values.{Layout, Written, line_of}
-use Rattle.pmt_model.specs.Machine.{Act, Stores, Flushes, Clflushes, Fences, Asserts}
-use Rattle.pmt_model.specs.Traces.{Recording, IsAct, act_of}
-use Rattle.pmt_model.specs.declared.event.Op.{Op}
-use Rattle.pmt_model.specs.declared.event.Op.TheVariants.{Store, Clwb, ClflushOpt, Clflush, Sfence, Mfence, IsPersist, IsOrderedBefore}
-use Rattle.pmt_model.specs.Findings.{IsFlushOf, ByFlush, ByClflush}
+use Rattle.pmt_laws.specs.Prelude.{Layout, Written, line_of, Act, Stores, Flushes, Clflushes, Fences, Asserts, Recording, IsAct, act_of, Op, Store, Clwb, ClflushOpt, Clflush, Sfence, Mfence, IsPersist, IsOrderedBefore, IsFlushOf, ByFlush, ByClflush}
 use Rattle.pmt_laws.proofs.Histories.{act-unique, act-within}
 use Rattle.pmt_reasons.proofs.CauseLaws.{no_flush_of}
-use Rattle.pmt_explain.specs.Following.{IsFenceAfter, IsFirst, past_of}
+use Rattle.pmt_explain.specs.Following.{IsFenceAfter, IsFirst, past_of, IsOn, ByStore, ByFlushOf, IsNextFlush, TellsNextFlush, AreNextFlushes, fence_by, next_in, next_before}
 use Rattle.pmt_explain.specs.Numbers.{Numbers, number_at}
-use Rattle.pmt_explain.specs.Upcoming.{IsOn, ByStore, ByFlushOf, IsNextFlush, TellsNextFlush, AreNextFlushes, fence_by, next_in, next_before}
 use Rattle.pmt_explain.proofs.FirstLemmas.{first-none, first-here, first-over}
 
 -- ---- Fences

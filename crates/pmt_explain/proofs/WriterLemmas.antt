@@ -2,21 +2,15 @@
 use Rattle.std.proofs.Common.{◌≡◌, ◌≢◌, ℕ, suc, ◌/◌, ◌<◌, ◌≤◌, ◌⊎◌, inl, inr, Bool, true, false, [], ◌∷◌, length, Option, Some, None, refl, sym, ap, subst, ◌∙◌, arith}
 use Rattle.std.proofs.lemmas.Bool.{cases_eq}
 use Rattle.std.specs.Prelude.{if◌then◌else◌, slice_get, unwrap_or}
-use Rattle.pmt_model.specs.declared.event.Event.{Event}
-use Rattle.pmt_model.specs.declared.event.Op.{Op}
-use Rattle.pmt_model.specs.declared.event.Op.TheVariants.{Store, Clwb, ClflushOpt, Clflush, Sfence, Mfence, IsPersist, IsOrderedBefore}
-use Rattle.pmt_model.specs.Values.{Written, line_of}
-use Rattle.pmt_model.specs.Machine.{Stores as StoresAct, writes}
-use Rattle.pmt_model.specs.Traces.{Recording, act_of, act, history}
-use Rattle.pmt_model.specs.Findings.{last_store_number}
+use Rattle.pmt_laws.specs.Prelude.{Event, Op, Store, Clwb, ClflushOpt, Clflush, Sfence, Mfence, IsPersist, IsOrderedBefore, Written, line_of, Stores as StoresAct, writes, Recording, act_of, act, history, last_store_number}
 use Rattle.pmt_laws.proofs.Histories.{history-suc, length-history}
 use Rattle.pmt_laws.proofs.OverwrittenLemmas.{last_store_number-is}
 use Rattle.pmt_tables.specs.Slots.{IsSlotOf}
-use Rattle.pmt_tables.specs.Written.{last_number}
+use Rattle.pmt_tables.specs.Lasts.{last_number}
 use Rattle.pmt_tables.proofs.LineLemmas.{byte-from_writes}
 use Rattle.pmt_explain.specs.declared.blocks.Blocks.{Blocks}
 use Rattle.pmt_explain.specs.declared.blocks.Stores.{Stores}
-use Rattle.pmt_explain.specs.Blocks.{IsAdded, IsKept, stores_at, Tells}
+use Rattle.pmt_explain.specs.LastStores.{IsAdded, IsKept, stores_at, Tells}
 use Rattle.pmt_explain.specs.Writers.{AreStores, AreWritten, IsStoreTo, NotesOp}
 use Rattle.pmt_explain.proofs.BlockLemmas.{told-none}
 

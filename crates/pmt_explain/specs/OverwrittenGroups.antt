@@ -3,9 +3,7 @@ use Rattle.std.specs.Prelude.{◌≡◌, ℕ, ◌+◌, ◌-◌, true, List, [], 
 use Rattle.std.specs.declared.hash.FoldHasher.{FoldHasher}
 use Rattle.std.specs.declared.hash.BuildHasherDefault.{BuildHasherDefault}
 use Rattle.indexmap.specs.IndexMap.{IndexMap, get}
-use Rattle.pmt_model.specs.Values.{Written}
-use Rattle.pmt_model.specs.Machine.{Stores, writes}
-use Rattle.pmt_model.specs.Traces.{Recording, IsAct}
+use Rattle.pmt_laws.specs.Prelude.{Written, Stores, writes, Recording, IsAct}
 use Rattle.pmt_explain.specs.declared.overwritten_grouping.Overwriting.{Overwriting}
 use Rattle.pmt_explain.specs.declared.overwritten_grouping.OverwrittenGroup.{OverwrittenGroup}
 use Rattle.pmt_explain.specs.Grouping.{Picks, AreGroups, Adds}

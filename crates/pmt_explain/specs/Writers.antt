@@ -1,16 +1,12 @@
 -- The last stores to bytes, as of a place.
 use Rattle.std.specs.Prelude.{◌≡◌, ℕ, ◌+◌, ◌/◌, ◌<◌, ◌≤◌, ◌⊎◌, length}
-use Rattle.pmt_model.specs.declared.event.Op.{Op}
-use Rattle.pmt_model.specs.declared.event.Op.TheVariants.{Store, Clwb, ClflushOpt, Clflush, Sfence, Mfence, IsPersist, IsOrderedBefore}
-use Rattle.pmt_model.specs.Values.{Span, Written}
-use Rattle.pmt_model.specs.Machine.{Stores}
-use Rattle.pmt_model.specs.Traces.{Recording, IsAct}
+use Rattle.pmt_laws.specs.Prelude.{Op, Store, Clwb, ClflushOpt, Clflush, Sfence, Mfence, IsPersist, IsOrderedBefore, Span, Written, Stores, Recording, IsAct}
 use Rattle.pmt_tables.specs.Slots.{IsSlotOf}
-use Rattle.pmt_tables.specs.Written.{last_number}
+use Rattle.pmt_tables.specs.Lasts.{last_number}
 use Rattle.pmt_explain.specs.declared.blocks.Blocks.{Blocks}
 use Rattle.pmt_explain.specs.declared.blocks.Stores.{Stores as BlockStores}
 use Rattle.pmt_explain.specs.declared.last_writers.LastWriters.{LastWriters}
-use Rattle.pmt_explain.specs.Blocks.{AreBlocks, Notes, stores_at, Tells}
+use Rattle.pmt_explain.specs.LastStores.{AreBlocks, Notes, stores_at, Tells}
 
 -- Store x is to block k.
 pub record IsStoreTo (T : Recording) (k x : ℕ) : Type 0 where

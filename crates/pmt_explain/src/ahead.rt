@@ -1,11 +1,8 @@
 //! What comes after a place, as events are read from the last to the first.
 
 ghost use Rattle.std.specs.Prelude.{◌≡◌, ℕ, suc, length, IfOk, OnOk};
-ghost use Rattle.pmt_model.specs.Values.{Written};
-ghost use Rattle.pmt_model.specs.Machine.{Stores, Flushes, Clflushes, Fences};
-ghost use Rattle.pmt_model.specs.Traces.{Recording, IsAct, act_of};
-ghost use Rattle.pmt_explain.specs.Following.{past_of, IsAhead};
-ghost use Rattle.pmt_explain.specs.Saving.{IsSafePlace, TellsSafe};
+ghost use Rattle.pmt_laws.specs.Prelude.{Written, Stores, Flushes, Clflushes, Fences, Recording, IsAct, act_of};
+ghost use Rattle.pmt_explain.specs.Following.{past_of, IsAhead, IsSafePlace, TellsSafe};
 
 use crate::numbers::Numbers;
 use pmt_model::{Format, Op, OutOfMemory, line_of};

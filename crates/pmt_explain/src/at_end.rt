@@ -2,8 +2,8 @@
 
 ghost use Rattle.std.specs.Prelude.{◌≡◌, ◌≤◌, ℕ, false, length, replicate, None, Some, IfOk, OnOk};
 ghost use Rattle.pmt_model.specs.Traces.{act_of};
-ghost use Rattle.pmt_explain.specs.AtEnd.{AreCausesAfter, cause_in, before_flush, cause_before, fence_before, cause_told};
-ghost use Rattle.pmt_explain.specs.Completed.{fenced_before};
+ghost use Rattle.pmt_explain.specs.CauseOf.{AreCausesAfter, cause_in, before_flush, cause_before, fence_before, cause_told};
+ghost use Rattle.pmt_explain.specs.Crashes.{fenced_before};
 
 use indexmap::IndexMap;
 use pmt_model::{Format, Op, OutOfMemory, Trace, line_of};

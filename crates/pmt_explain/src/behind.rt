@@ -1,14 +1,10 @@
 //! Why an event is dropped, by what stands before it and what comes after it.
 
 ghost use Rattle.std.specs.Prelude.{◌≡◌, ℕ, suc, ◌-◌, true, false, slice_index, slice_set, IfOk};
-ghost use Rattle.pmt_model.specs.Keeping.{IsKept};
-ghost use Rattle.pmt_model.specs.Traces.{Recording, IsAct, act_of};
+ghost use Rattle.pmt_laws.specs.Prelude.{IsKept, Recording, IsAct, act_of};
 ghost use Rattle.pmt_reasons.specs.Reasons.{IsReason};
-ghost use Rattle.pmt_explain.specs.Following.{IsFenceAfter, IsFirst, past_of};
-ghost use Rattle.pmt_explain.specs.Saving.{TellsSafe};
-ghost use Rattle.pmt_explain.specs.Upcoming.{AreNextFlushes, TellsNextFlush};
-ghost use Rattle.pmt_explain.specs.Behind.{IsBehind};
-ghost use Rattle.pmt_explain.specs.Dropping.{TellsReason};
+ghost use Rattle.pmt_explain.specs.Following.{IsFenceAfter, IsFirst, past_of, TellsSafe, AreNextFlushes, TellsNextFlush};
+ghost use Rattle.pmt_explain.specs.Dropping.{IsBehind, TellsReason};
 
 use crate::reasons::{reason_of_fence, reason_of_flush};
 use pmt_model::{Op, OutOfMemory, Trace, line_of};

@@ -1,7 +1,7 @@
 //! The last stores to bytes, by blocks of 64 neighbours.
 
 ghost use Rattle.std.specs.Prelude.{◌≡◌, ◌<◌, ◌^◌, [], IfOk, OnOk};
-ghost use Rattle.pmt_explain.specs.Blocks.{AreBlocks, Notes, Opens};
+ghost use Rattle.pmt_explain.specs.LastStores.{AreBlocks, Notes, Opens};
 
 use pmt_model::{OutOfMemory, WordStore};
 use pmt_tables::{LineSlots, Overwrite, Words};

@@ -1,11 +1,8 @@
 //! What memory holds after a crash.
 
 ghost use Rattle.std.specs.Prelude.{◌≡◌, ◌+◌, ◌-◌, ◌^◌, ◌<◌, ◌≤◌, ℕ, true, if◌then◌else◌, length, slice_get, slice_index, IfOk, IsSomeAnd};
-ghost use Rattle.pmt_model.specs.Machine.{Stores, writes};
-ghost use Rattle.pmt_model.specs.Traces.{IsAct, act_of};
-ghost use Rattle.pmt_model.specs.Values.{Written};
-ghost use Rattle.pmt_explain.specs.Crashes.{full_line, AreCrashBytes};
-ghost use Rattle.pmt_explain.specs.Kept.{keeps, AreLastKept, AreReadOf, IsWrittenBy};
+ghost use Rattle.pmt_laws.specs.Prelude.{Stores, writes, IsAct, act_of, Written};
+ghost use Rattle.pmt_explain.specs.Crashes.{full_line, AreCrashBytes, keeps, AreLastKept, AreReadOf, IsWrittenBy};
 
 use crate::crash::Crash;
 use crate::last_stores::note_store;

@@ -1,10 +1,8 @@
 //! Why a store is not safe at a place.
 
 ghost use Rattle.std.specs.Prelude.{◌≡◌, ◌<◌, ◌≤◌, length, MatchOption};
-ghost use Rattle.pmt_model.specs.Traces.{act_of, count_at};
-ghost use Rattle.pmt_model.specs.Fronts.{front_at};
-ghost use Rattle.pmt_reasons.specs.Causes.{IsCause};
-ghost use Rattle.pmt_reasons.specs.Scanning.{with_flush as flush_cause, with_fence as fence_cause, cause_after, flushed_after};
+ghost use Rattle.pmt_laws.specs.Prelude.{act_of, count_at, front_at};
+ghost use Rattle.pmt_reasons.specs.Causes.{IsCause, with_flush as flush_cause, with_fence as fence_cause, cause_after, flushed_after};
 ghost use Rattle.pmt_explain.specs.CauseOf.{IsCauseOf};
 
 use pmt_model::{Format, Op, Trace, line_of};

@@ -2,7 +2,7 @@
 
 ghost use Rattle.std.specs.Prelude.{◌≡◌, ◌≤◌, ℕ, ◌==◌, ◌&&◌, if◌then◌else◌, length, IfOk, OnOk};
 ghost use Rattle.pmt_model.specs.Traces.{act_of};
-ghost use Rattle.pmt_explain.specs.Completed.{flush_at, IsLastCompleted, completes, fenced_before};
+ghost use Rattle.pmt_explain.specs.Crashes.{flush_at, IsLastCompleted, completes, fenced_before};
 
 use indexmap::IndexMap;
 use pmt_model::{Format, Op, OutOfMemory, Trace, line_of};

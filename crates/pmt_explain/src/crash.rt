@@ -1,8 +1,7 @@
 //! A crash, and which stores it leaves persisted.
 
 ghost use Rattle.std.specs.Prelude.{◌≡◌, ◌≤◌, length, IfOk};
-ghost use Rattle.pmt_explain.specs.Crashes.{full_line};
-ghost use Rattle.pmt_explain.specs.Keepers.{IsCrashAt, persisted_to};
+ghost use Rattle.pmt_explain.specs.Crashes.{full_line, IsCrashAt, persisted_to};
 
 use crate::completed::{Completed, completed_flushes, flush_of};
 use pmt_model::{Op, OutOfMemory, Trace, line_of};

@@ -2,7 +2,7 @@
 
 ghost use Rattle.std.specs.Prelude.{◌≡◌, ◌+◌, ◌<◌, ◌^◌, if◌then◌else◌, IfOk, OnOk};
 ghost use Rattle.pmt_model.specs.Keeping.{IsKeep};
-ghost use Rattle.pmt_explain.specs.Upcoming.{AreNextFlushes, AreOwnFences};
+ghost use Rattle.pmt_explain.specs.Following.{AreNextFlushes, AreOwnFences};
 ghost use Rattle.pmt_explain.specs.Dropping.{AreDropped, has_at as stands_at, with_listed};
 
 use crate::behind::Behind;

@@ -1,14 +1,10 @@
 //! The crash that violates a failed assertion.
 
 ghost use Rattle.std.specs.Prelude.{◌≡◌, ◌≤◌, ℕ, length, IfOk, MatchOption, None};
-ghost use Rattle.pmt_model.specs.Machine.{Stores};
-ghost use Rattle.pmt_model.specs.Traces.{IsAct, history};
-ghost use Rattle.pmt_model.specs.Values.{Written};
-ghost use Rattle.pmt_model.specs.Assertions.{PersistPasses, OrderedPasses};
+ghost use Rattle.pmt_laws.specs.Prelude.{Stores, IsAct, history, Written, PersistPasses, OrderedPasses};
 ghost use Rattle.pmt_reasons.specs.Failures.{IsFailureAt, IsPersistFailure, IsOrderedFailure};
-ghost use Rattle.pmt_explain.specs.Losing.{Anywhere, IsFirstAmong};
-ghost use Rattle.pmt_explain.specs.Keeping.{IsStoreOff, KeepsWithout, IsCrashAfter, IsFirstCrash};
-ghost use Rattle.pmt_explain.specs.Saving.{AreSafePlaces};
+ghost use Rattle.pmt_explain.specs.Crashes.{Anywhere, IsFirstAmong, IsStoreOff, KeepsWithout, IsCrashAfter, IsFirstCrash};
+ghost use Rattle.pmt_explain.specs.Following.{AreSafePlaces};
 ghost use Rattle.pmt_explain.specs.Writers.{Knows};
 
 use crate::LastWriters;

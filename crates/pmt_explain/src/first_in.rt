@@ -2,14 +2,11 @@
 
 ghost use Rattle.std.specs.Prelude.{◌≡◌, ℕ, ◌+◌, ◌*◌, ◌%◌, ◌^◌, ◌<◌, ◌≤◌, true, length};
 ghost use Rattle.pmt_tables.specs.Slots.{IsSlotOf};
-ghost use Rattle.pmt_tables.specs.Lasts.{last_at};
-ghost use Rattle.pmt_tables.specs.Written.{last_number};
-ghost use Rattle.pmt_explain.specs.Blocks.{AreBlocks};
+ghost use Rattle.pmt_tables.specs.Lasts.{last_at, last_number};
+ghost use Rattle.pmt_explain.specs.LastStores.{AreBlocks};
 ghost use Rattle.pmt_explain.specs.Writers.{Knows};
-ghost use Rattle.pmt_explain.specs.FirstIn.{GoesOn, IsBlockIn, IsSearch, IsWordIn, range_of};
-ghost use Rattle.pmt_explain.specs.Losing.{Anywhere, IsFirstIn};
-ghost use Rattle.pmt_explain.specs.Saving.{AreSafePlaces};
-ghost use Rattle.pmt_explain.specs.Wanting.{IsWithin, Wants};
+ghost use Rattle.pmt_explain.specs.Crashes.{GoesOn, IsBlockIn, IsSearch, IsWordIn, range_of, Anywhere, IsFirstIn, IsWithin, Wants};
+ghost use Rattle.pmt_explain.specs.Following.{AreSafePlaces};
 
 use crate::LastWriters;
 use crate::wanted::{Wanted, bound_of, comes_after, earlier, is_wanted};

@@ -1,10 +1,9 @@
 //! The last stores to bytes, as of a place.
 
 ghost use Rattle.std.specs.Prelude.{◌≡◌, ◌≤◌, ◌<◌, ◌^◌, length, IfSome, OnOk};
-ghost use Rattle.pmt_model.specs.Traces.{Recording};
-ghost use Rattle.pmt_model.specs.declared.event.Op.TheVariants.{Store};
+ghost use Rattle.pmt_laws.specs.Prelude.{Recording, Store};
 ghost use Rattle.pmt_tables.specs.Slots.{IsFound};
-ghost use Rattle.pmt_explain.specs.Blocks.{AreBlocks, stores_at};
+ghost use Rattle.pmt_explain.specs.LastStores.{AreBlocks, stores_at};
 ghost use Rattle.pmt_explain.specs.Writers.{AreWriters, NotesOp};
 
 use crate::blocks::Blocks;

@@ -3,9 +3,7 @@
 ghost use Rattle.std.specs.Prelude.{◌≡◌, ◌≤◌, ◌<◌, ◌+◌, ◌==◌, ℕ, suc, if◌then◌else◌, length, map, IfOk, OnOk, Option};
 ghost use Rattle.indexmap.specs.IndexMap.{keys};
 ghost use Rattle.pmt_model.specs.Traces.{act_of, event_limit, history, lines_of, with_line};
-ghost use Rattle.pmt_explain.specs.Crashes.{full_line, line_count};
-ghost use Rattle.pmt_explain.specs.Counting.{count_in, raised, lines_after, count_after, AreCountsBy};
-ghost use Rattle.pmt_explain.specs.Keepers.{IsCrashAt};
+ghost use Rattle.pmt_explain.specs.Crashes.{full_line, line_count, count_in, raised, lines_after, count_after, AreCountsBy, IsCrashAt};
 
 use crate::crash::Crash;
 use indexmap::IndexMap;

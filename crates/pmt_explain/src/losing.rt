@@ -1,9 +1,8 @@
 //! All last stores to bytes of a range that a crash loses.
 
 ghost use Rattle.std.specs.Prelude.{◌≡◌, ◌≤◌, if◌then◌else◌, [], ◌∷◌, ◌++◌, length, IfOk, OnOk};
-ghost use Rattle.pmt_explain.specs.Crashes.{full_line};
-ghost use Rattle.pmt_explain.specs.Losing.{AreLostAmong, AreLostIn};
-ghost use Rattle.pmt_explain.specs.Saving.{AreSafePlaces};
+ghost use Rattle.pmt_explain.specs.Crashes.{full_line, AreLostAmong, AreLostIn};
+ghost use Rattle.pmt_explain.specs.Following.{AreSafePlaces};
 
 use crate::crash::full_line_of;
 use crate::last_stores::last_stores;

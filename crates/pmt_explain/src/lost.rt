@@ -1,11 +1,9 @@
 //! Which last stores a crash loses.
 
 ghost use Rattle.std.specs.Prelude.{◌≡◌, ◌-◌, ◌≤◌, ◌↔◌, ℕ, length, slice_index, IsTrue, MatchOption};
-ghost use Rattle.pmt_model.specs.Values.{Written};
-ghost use Rattle.pmt_model.specs.Machine.{Stores};
-ghost use Rattle.pmt_model.specs.Traces.{IsAct};
+ghost use Rattle.pmt_laws.specs.Prelude.{Written, Stores, IsAct};
 ghost use Rattle.pmt_reasons.specs.Failures.{IsLost};
-ghost use Rattle.pmt_explain.specs.Saving.{AreSafePlaces, loses as loses_at};
+ghost use Rattle.pmt_explain.specs.Following.{AreSafePlaces, loses as loses_at};
 
 use pmt_model::{Op, Trace, line_of};
 

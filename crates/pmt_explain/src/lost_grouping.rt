@@ -2,9 +2,8 @@
 
 ghost use Rattle.std.specs.Prelude.{◌≡◌, ◌+◌, ◌^◌, ◌<◌, ◌≤◌, ℕ, None, Some, length, unwrap_or, nat_eq, All, [], IfOk, OnOk, MatchOption};
 ghost use Rattle.indexmap.specs.IndexMap.{get};
-ghost use Rattle.pmt_explain.specs.AtEnd.{TellCauses};
-ghost use Rattle.pmt_explain.specs.CauseOf.{IsCauseOf};
-ghost use Rattle.pmt_explain.specs.LostGroups.{AreLostGroups, IsLostStore, IsLostAlone, key_for, group_key, place_in, AddsStore};
+ghost use Rattle.pmt_explain.specs.CauseOf.{TellCauses, IsCauseOf};
+ghost use Rattle.pmt_explain.specs.Grouping.{AreLostGroups, IsLostStore, IsLostAlone, key_for, group_key, place_in, AddsStore};
 
 use crate::at_end::causes_after;
 use crate::causing::cause as cause_at;

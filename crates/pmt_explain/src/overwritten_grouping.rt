@@ -2,10 +2,7 @@
 
 ghost use Rattle.std.specs.Prelude.{◌≡◌, ◌↔◌, ◌+◌, ◌^◌, ◌<◌, ℕ, Some, length, All, IfOk, IfSome, OnOk, IsTrue, MatchOption, nat_eq};
 ghost use Rattle.indexmap.specs.IndexMap.{get};
-ghost use Rattle.pmt_model.specs.Values.{Written};
-ghost use Rattle.pmt_model.specs.Machine.{Stores};
-ghost use Rattle.pmt_model.specs.Traces.{IsAct};
-ghost use Rattle.pmt_model.specs.Values.{line_of as line_at};
+ghost use Rattle.pmt_laws.specs.Prelude.{Written, Stores, IsAct, line_of as line_at};
 ghost use Rattle.pmt_explain.specs.OverwrittenGroups.{AreOverwrittenGroups, IsPair, IsPairAlone, IsRepeatedBy, AddsPair};
 
 use crate::lost::line_of_store;

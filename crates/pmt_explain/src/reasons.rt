@@ -1,13 +1,10 @@
 //! Why one event is dropped.
 
 ghost use Rattle.std.specs.Prelude.{◌≡◌, ◌≤◌, ℕ};
-ghost use Rattle.pmt_model.specs.Keeping.{IsKept};
-ghost use Rattle.pmt_model.specs.Machine.{Flushes};
-ghost use Rattle.pmt_model.specs.Traces.{IsAct, act_of, count_at};
+ghost use Rattle.pmt_laws.specs.Prelude.{IsKept, Flushes, IsAct, act_of, count_at};
 ghost use Rattle.pmt_reasons.specs.Reasons.{IsReason};
-ghost use Rattle.pmt_explain.specs.Following.{IsFenceAfter, IsFirst, past_of};
-ghost use Rattle.pmt_explain.specs.Upcoming.{AreNextFlushes};
-ghost use Rattle.pmt_explain.specs.Reasoning.{AreSafeFrom, IsFlushAfter, fence_reason, flushes_by, marking_reason};
+ghost use Rattle.pmt_explain.specs.Following.{IsFenceAfter, IsFirst, past_of, AreNextFlushes};
+ghost use Rattle.pmt_explain.specs.Dropping.{AreSafeFrom, IsFlushAfter, fence_reason, flushes_by, marking_reason};
 
 use crate::upcoming::number_of;
 use pmt_model::{Format, Op, Trace};

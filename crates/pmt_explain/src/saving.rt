@@ -1,8 +1,7 @@
 //! From which place on each store is safe.
 
 ghost use Rattle.std.specs.Prelude.{◌≡◌, length, IfOk, OnOk};
-ghost use Rattle.pmt_explain.specs.Following.{IsAhead};
-ghost use Rattle.pmt_explain.specs.Saving.{AreSafePlaces};
+ghost use Rattle.pmt_explain.specs.Following.{IsAhead, AreSafePlaces};
 
 use crate::ahead::Ahead;
 use pmt_model::{OutOfMemory, Trace};

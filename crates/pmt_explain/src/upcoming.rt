@@ -3,7 +3,7 @@
 ghost use Rattle.std.specs.Prelude.{◌≡◌, ◌-◌, ◌<◌, ℕ, slice_index, IfOk, OnOk};
 ghost use Rattle.pmt_model.specs.Traces.{act_of};
 ghost use Rattle.pmt_explain.specs.Numbers.{number_at};
-ghost use Rattle.pmt_explain.specs.Upcoming.{AreNextFlushes, AreOwnFences, fence_by, fence_of, next_before, next_in};
+ghost use Rattle.pmt_explain.specs.Following.{AreNextFlushes, AreOwnFences, fence_by, fence_of, next_before, next_in};
 
 use crate::numbers::Numbers;
 use pmt_model::{Format, Op, OutOfMemory, Trace, line_of};

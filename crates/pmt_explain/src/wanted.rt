@@ -1,9 +1,8 @@
 //! Which of the last stores to bytes are wanted, and which of two comes first.
 
 ghost use Rattle.std.specs.Prelude.{◌≡◌, ◌==◌, ◌||◌, ◌<◌, ◌^◌, ◌↔◌, IsTrue, nat_lt};
-ghost use Rattle.pmt_explain.specs.Losing.{comes_before, store_bound, Picks};
-ghost use Rattle.pmt_explain.specs.Saving.{AreSafePlaces};
-ghost use Rattle.pmt_explain.specs.Wanting.{IsWithin, Wants};
+ghost use Rattle.pmt_explain.specs.Crashes.{comes_before, store_bound, Picks, IsWithin, Wants};
+ghost use Rattle.pmt_explain.specs.Following.{AreSafePlaces};
 
 use crate::lost::{is_lost, line_of_store};
 use pmt_model::Trace;

@@ -5,7 +5,7 @@ use Rattle.serde_json.specs.Data.{Data}
 use Rattle.serde_json.specs.View.{view}
 use Rattle.serde_json.specs.declared.value.Value.{Value, Array}
 use Rattle.serde_json.proofs.Views.{view-Array}
-use Rattle.pmt_explain_json.specs.Parts.{array_of}
+use Rattle.pmt_explain_json.specs.Entries.{array_of}
 
 -- The array of the values, once there is one of each item.
 pub array-of-all : {A : Type 0} → (f : A → Data) (xs : List A) (i : ℕ) (vs : Vec Value Global) →

@@ -9,7 +9,7 @@ use Rattle.std.proofs.lemmas.List.Folds.{list_any-append}
 use Rattle.json.specs.Print.{escape_letter, escape_byte, escape, quoted}
 use Rattle.serde_json.specs.Data.{Num, unsigned, negative, float, Data, null, boolean, number, string, array, object, Items, no_items, item, Members, no_members, member}
 use Rattle.serde_json.specs.Written.{number_text, comma_if, compact_text, items_text, members_text}
-use Rattle.pmt_explain_json.specs.Clean.{TextHasNoLf}
+use Rattle.pmt_explain_json.specs.Lines.{TextHasNoLf}
 
 abbrev has_lf : List ℕ → Bool
 has_lf text = list_any (λ c. c == 10) text

@@ -5,7 +5,7 @@ use Rattle.std.specs.Borrow.{Bor}
 use Rattle.serde_json.specs.Data.{Data, Members, no_members, object, put}
 use Rattle.serde_json.specs.View.{view}
 use Rattle.serde_json.specs.declared.value.Value.{Value}
-use Rattle.pmt_explain_json.specs.Parts.{IsMadeOf}
+use Rattle.pmt_explain_json.specs.Entries.{IsMadeOf}
 
 -- The values of the fields, as far as they were made, are these.
 abbrev pub AreMade : {E : Type 0} → List (Bor (List ℕ) × Result Value E) → List Data → Type 0

@@ -5,43 +5,16 @@ use Rattle.std.specs.Prelude.{String, string_bytes}
 use Rattle.serde_json.specs.Data.{Data, string}
 use Rattle.serde_json.specs.View.{items_of}
 use Rattle.serde_json.specs.Written.{has_float, items_have_float}
-use Rattle.pmt_model.specs.Traces.{Recording, event}
-use Rattle.pmt_model.specs.declared.event.Event.{Event}
-use Rattle.pmt_reasons.specs.declared.cause.Cause.{Cause}
+use Rattle.pmt_text.specs.Prelude.{Recording, event, Event}
+use Rattle.pmt_explanation.specs.Prelude.{Cause, ByteStore, Reason, Mend, mend_of, StoredByte, CrashByte, Dropped, LostGroup, OverwrittenGroup, FailureKey, Group, LateSpot, first_in, Verdict, RangeAfter, ShownCrash, Labels, Unwritten, label_of, kind_name, Choice, Kind, ByteRange}
 use Rattle.pmt_reasons.specs.declared.cause.Cause.TheVariants as causes
-use Rattle.pmt_reasons.specs.declared.failure.ByteStore.{ByteStore}
-use Rattle.pmt_reasons.specs.declared.reason.Reason.{Reason}
-use Rattle.pmt_explain.specs.declared.bytes.StoredByte.{StoredByte}
-use Rattle.pmt_explain.specs.declared.bytes.CrashByte.{CrashByte}
-use Rattle.pmt_explain.specs.declared.dropped_event.Dropped.{Dropped}
-use Rattle.pmt_explain.specs.declared.lost_grouping.LostGroup.{LostGroup}
-use Rattle.pmt_explain.specs.declared.overwritten_grouping.OverwrittenGroup.{OverwrittenGroup}
-use Rattle.pmt_causes.specs.declared.failure_keys.FailureKey.{FailureKey}
-use Rattle.pmt_causes.specs.declared.grouping.Group.{Group}
-use Rattle.pmt_causes.specs.declared.late.LateSpot.{LateSpot}
-use Rattle.pmt_causes.specs.Groups.{first_in}
-use Rattle.pmt_entries.specs.declared.verdict.Verdict.{Verdict}
 use Rattle.pmt_explanation.specs.declared.explaining.Explanation.{Explanation}
-use Rattle.pmt_failures.specs.declared.failures.RangeAfter.{RangeAfter}
-use Rattle.pmt_failures.specs.declared.failures.ShownCrash.{ShownCrash}
-use Rattle.pmt_asked.specs.declared.labels.Labels.{Labels}
-use Rattle.pmt_reasons.specs.declared.mend.Mend.{Mend}
 use Rattle.pmt_reasons.specs.declared.mend.Mend.TheVariants as mends
 use Rattle.pmt_explanation.specs.declared.summing.Summary.{Summary}
-use Rattle.pmt_failures.specs.declared.unwritten.Unwritten.{Unwritten}
-use Rattle.pmt_asked.specs.Labelling.{label_of}
-use Rattle.pmt_reasons.specs.Mends.{mend_of}
-use Rattle.pmt_explain_json.specs.Parts.{or_null, count_data, address_data, address_of, known_event_data, event_data, line_data, byte_store_data, range_data, cause_data, by_of, reason_data, mend_data}
-use Rattle.pmt_explain_json.specs.Entries.{line_count_data, byte_store, byte_value, range_after_data, failure_data, lost_data, dropped_data, overwritten_data, ranges_of, unwritten_data}
-use Rattle.pmt_explain_json.specs.Groups.{cause_group_data}
-use Rattle.pmt_explain_json.specs.Places.{place_label, place_thread}
-use Rattle.pmt_explain_json.specs.Tables.{late_data, spot_label, spot_line}
-use Rattle.pmt_asked.specs.declared.choosing.Choice.{Choice}
-use Rattle.pmt_asked.specs.declared.choosing.Kind.{Kind}
-use Rattle.pmt_asked.specs.declared.ignoring.ByteRange.{ByteRange}
+use Rattle.pmt_explain_json.specs.Entries.{or_null, count_data, address_data, address_of, known_event_data, event_data, line_data, byte_store_data, range_data, cause_data, by_of, reason_data, mend_data, line_count_data, byte_store, byte_value, range_after_data, failure_data, lost_data, dropped_data, overwritten_data, ranges_of, unwritten_data}
+use Rattle.pmt_explain_json.specs.Places.{cause_group_data, place_label, place_thread}
+use Rattle.pmt_explain_json.specs.Lines.{late_data, spot_label, spot_line, summary_data, more_data, asked_data, byte_range_data, lack_data}
 use Rattle.pmt_explain_json.specs.declared.lacking.Lack.{Lack}
-use Rattle.pmt_explain_json.specs.Lines.{summary_data, more_data, asked_data, byte_range_data, lack_data}
-use Rattle.pmt_asked.specs.Choosing.{kind_name}
 
 pub both : (a b : Bool) → a ≡ false → b ≡ false → (a || b) ≡ false
 both true b p q = p

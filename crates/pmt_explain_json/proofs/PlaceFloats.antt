@@ -4,23 +4,13 @@ use Rattle.serde_json.specs.Data.{string}
 use Rattle.serde_json.specs.View.{items_of}
 use Rattle.serde_json.specs.Written.{has_float, items_have_float}
 use Rattle.pmt_model.specs.Traces.{Recording}
-use Rattle.pmt_causes.specs.declared.failure_keys.Origin.{Origin}
-use Rattle.pmt_entries.specs.declared.entries.Entries.{Entries}
-use Rattle.pmt_entries.specs.declared.entries.Entry.{Entry}
-use Rattle.pmt_entries.specs.declared.entries.Subject.{Subject}
+use Rattle.pmt_explanation.specs.Prelude.{Origin, PlaceRow, SavedBefore, Hint, HintKind, Entries, Entry, Subject, Site, Labels}
 use Rattle.pmt_entries.specs.declared.entries.Subject.TheVariants as subjects
-use Rattle.pmt_entries.specs.declared.sites.Site.{Site}
 use Rattle.pmt_explanation.specs.declared.explaining.Explanation.{Explanation}
 use Rattle.pmt_explain_json.specs.declared.facts.Facts.{Facts}
-use Rattle.pmt_fates.specs.declared.place_row.PlaceRow.{PlaceRow}
-use Rattle.pmt_fates.specs.declared.saved_before.SavedBefore.{SavedBefore}
-use Rattle.pmt_asked.specs.declared.labels.Labels.{Labels}
-use Rattle.pmt_explain_json.specs.Parts.{count_data, event_data, or_null}
-use Rattle.pmt_hints.specs.declared.hint.Hint.{Hint}
-use Rattle.pmt_hints.specs.declared.hint.HintKind.{HintKind}
-use Rattle.pmt_explain_json.specs.Hints.{hint_data, hint_name, path_label}
-use Rattle.pmt_explain_json.specs.Places.{place_data, place_label, place_thread, row_label, saved_data}
-use Rattle.pmt_explain_json.specs.Weighed.{entry_data, members_of, place_of, site_at, site_data, sites_data}
+use Rattle.pmt_explain_json.specs.Entries.{count_data, event_data, or_null}
+use Rattle.pmt_explain_json.specs.Places.{hint_data, hint_name, path_label, place_data, place_label, place_thread, row_label, saved_data}
+use Rattle.pmt_explain_json.specs.Lines.{entry_data, members_of, place_of, site_at, site_data, sites_data}
 use Rattle.pmt_explain_json.proofs.NoFloats.{array-float, both, count-float, event-float, label-float, or_null-float}
 
 saved-float : (T : Recording) (labels : Labels) (s : SavedBefore) → has_float (saved_data T labels s) ≡ false

@@ -1,10 +1,3 @@
 pub mod Entries
-pub mod Facts
-pub mod Groups
-pub mod Hints
 pub mod Lines
-pub mod Parts
 pub mod Places
-pub mod Tables
-pub mod Weighed
-pub mod Clean

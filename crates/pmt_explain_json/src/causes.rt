@@ -2,8 +2,8 @@
 ghost use Rattle.std.specs.Prelude.{◌≡◌, IfOk, map};
 ghost use Rattle.serde_json.specs.Data.{string};
 ghost use Rattle.serde_json.specs.View.{view};
-ghost use Rattle.pmt_explain_json.specs.Parts.{array_of, count_data};
-ghost use Rattle.pmt_explain_json.specs.Groups.{assertion_name, cause_group_data, cause_name as cause_in};
+ghost use Rattle.pmt_explain_json.specs.Entries.{array_of, count_data};
+ghost use Rattle.pmt_explain_json.specs.Places.{assertion_name, cause_group_data, cause_name as cause_in};
 
 use crate::objects::object_made;
 use crate::places::{label_or_null, thread_or_null};

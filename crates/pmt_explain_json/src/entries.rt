@@ -1,8 +1,7 @@
 //! The entries of an explanation as JSON.
 ghost use Rattle.std.specs.Prelude.{◌≡◌, ◌++◌, IfOk, OnOk, map};
 ghost use Rattle.serde_json.specs.View.{view};
-ghost use Rattle.pmt_explain_json.specs.Parts.{array_of, range_data};
-ghost use Rattle.pmt_explain_json.specs.Entries.{dropped_data, lost_data, overwritten_data, ranges_of, unwritten_data};
+ghost use Rattle.pmt_explain_json.specs.Entries.{array_of, range_data, dropped_data, lost_data, overwritten_data, ranges_of, unwritten_data};
 
 use crate::objects::object_made;
 use crate::parts::{cause_value, event_value, line_value, mend_value, range_value, reason_value};

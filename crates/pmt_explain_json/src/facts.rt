@@ -1,6 +1,6 @@
 //! What an entry tells, whatever it is of.
 ghost use Rattle.std.specs.Prelude.{◌≡◌, slice_get};
-ghost use Rattle.pmt_explain_json.specs.Facts.{facts_of as facts_in, failure_facts, hint_facts, left_facts, left_path as left_path_in, loss_facts, missed_why as missed_why_in, plain_facts, sign_of as sign_in, site_facts as site_facts_in};
+ghost use Rattle.pmt_explain_json.specs.Lines.{facts_of as facts_in, failure_facts, hint_facts, left_facts, left_path as left_path_in, loss_facts, missed_why as missed_why_in, plain_facts, sign_of as sign_in, site_facts as site_facts_in};
 
 use pmt_causes::{CauseKind, FailureKey, Group, Origin};
 use pmt_entries::{Entries, Site, Subject};

@@ -1,8 +1,7 @@
 //! Failed assertions as JSON.
 ghost use Rattle.std.specs.Prelude.{◌≡◌, IfOk, map};
 ghost use Rattle.serde_json.specs.View.{view};
-ghost use Rattle.pmt_explain_json.specs.Parts.{array_of, byte_store_data, or_null};
-ghost use Rattle.pmt_explain_json.specs.Entries.{byte_store, byte_value, failure_data, line_count_data, range_after_data};
+ghost use Rattle.pmt_explain_json.specs.Entries.{array_of, byte_store_data, or_null, byte_store, byte_value, failure_data, line_count_data, range_after_data};
 
 use crate::objects::{object_made, object_value};
 use crate::parts::{byte_store_value, cause_value, event_value, line_value, mend_value};

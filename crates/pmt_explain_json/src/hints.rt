@@ -3,8 +3,8 @@ ghost use Rattle.std.specs.Prelude.{◌≡◌, ◌++◌, IfOk, OnOk};
 ghost use Rattle.std.specs.List.{flat_map};
 ghost use Rattle.serde_json.specs.Data.{string};
 ghost use Rattle.serde_json.specs.View.{view};
-ghost use Rattle.pmt_explain_json.specs.Parts.{or_null};
-ghost use Rattle.pmt_explain_json.specs.Hints.{hint_data, hint_line, hint_name as name_in, path_label};
+ghost use Rattle.pmt_explain_json.specs.Entries.{or_null};
+ghost use Rattle.pmt_explain_json.specs.Places.{hint_data, hint_line, hint_name as name_in, path_label};
 
 use crate::lines::push_value;
 use crate::objects::object_made;

@@ -3,7 +3,7 @@ ghost use Rattle.std.specs.Prelude.{◌≡◌, IfOk, map, string_bytes};
 ghost use Rattle.serde_json.specs.Data.{string};
 ghost use Rattle.serde_json.specs.View.{view};
 ghost use Rattle.pmt_explain_json.specs.Lines.{lack_data};
-ghost use Rattle.pmt_explain_json.specs.Parts.{array_of};
+ghost use Rattle.pmt_explain_json.specs.Entries.{array_of};
 
 use crate::objects::object_made;
 use crate::parts::count_or_null;

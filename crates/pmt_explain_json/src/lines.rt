@@ -3,11 +3,9 @@ ghost use Rattle.std.specs.Prelude.{◌≡◌, ◌++◌, IfOk, List, OnOk, false
 ghost use Rattle.std.specs.List.{flat_map};
 ghost use Rattle.serde_json.specs.View.{view};
 ghost use Rattle.serde_json.specs.Written.{has_float};
-ghost use Rattle.pmt_failures.specs.declared.failures.ShownCrash.{ShownCrash};
-ghost use Rattle.pmt_failures.specs.Showing.{AreShownCrashes, IsShownCrash};
-ghost use Rattle.pmt_explain_json.specs.Parts.{json_line};
-ghost use Rattle.pmt_explain_json.specs.Entries.{dropped_line, failure_line, lost_line, overwritten_line, unwritten_line};
-ghost use Rattle.pmt_explain_json.specs.Groups.{cause_line};
+ghost use Rattle.pmt_explanation.specs.Prelude.{ShownCrash, AreShownCrashes, IsShownCrash};
+ghost use Rattle.pmt_explain_json.specs.Entries.{json_line, dropped_line, failure_line, lost_line, overwritten_line, unwritten_line};
+ghost use Rattle.pmt_explain_json.specs.Places.{cause_line};
 ghost use Rattle.pmt_explain_json.specs.Lines.{IsJsonText, summary_line};
 
 use crate::causes::cause_group_value;

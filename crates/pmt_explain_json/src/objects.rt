@@ -2,7 +2,7 @@
 ghost use Rattle.std.specs.Prelude.{◌≡◌, IfOk};
 ghost use Rattle.serde_json.specs.Data.{object, no_members};
 ghost use Rattle.serde_json.specs.View.{view};
-ghost use Rattle.pmt_explain_json.specs.Parts.{IsMadeOf, put_all};
+ghost use Rattle.pmt_explain_json.specs.Entries.{IsMadeOf, put_all};
 
 use pmt_model::OutOfMemory;
 use serde_json::{Map, Value, put};

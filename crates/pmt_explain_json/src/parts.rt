@@ -2,9 +2,8 @@
 ghost use Rattle.std.specs.Prelude.{◌≡◌, IfOk, string_bytes};
 ghost use Rattle.serde_json.specs.Data.{string};
 ghost use Rattle.serde_json.specs.View.{view};
-ghost use Rattle.pmt_asked.specs.Framing.{frame_of as frame_in};
-ghost use Rattle.pmt_asked.specs.Labelling.{label_of};
-ghost use Rattle.pmt_explain_json.specs.Parts.{address_data, by_of as by_in, byte_store_data, cause_data, count_data, event_data, fence_data, flush_data, line_data, mend_data, named_cause, or_null, range_data, reason_data, reason_name as name_in, store_first_data, unfenced_data};
+ghost use Rattle.pmt_asked.specs.Choosing.{frame_of as frame_in, label_of};
+ghost use Rattle.pmt_explain_json.specs.Entries.{address_data, by_of as by_in, byte_store_data, cause_data, count_data, event_data, fence_data, flush_data, line_data, mend_data, named_cause, or_null, range_data, reason_data, reason_name as name_in, store_first_data, unfenced_data};
 
 use crate::objects::{object_made, object_value};
 use crate::words::{address_of, address_text, words_of};

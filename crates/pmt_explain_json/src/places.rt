@@ -3,7 +3,7 @@ ghost use Rattle.std.specs.Prelude.{◌≡◌, ◌++◌, IfOk, OnOk};
 ghost use Rattle.std.specs.List.{flat_map};
 ghost use Rattle.serde_json.specs.Data.{string};
 ghost use Rattle.serde_json.specs.View.{view};
-ghost use Rattle.pmt_explain_json.specs.Parts.{count_data, or_null};
+ghost use Rattle.pmt_explain_json.specs.Entries.{count_data, or_null};
 ghost use Rattle.pmt_explain_json.specs.Places.{place_data, place_label, place_line, place_thread, row_kind as kind_in, row_label as label_in, saved_data};
 
 use crate::lines::push_value;

@@ -2,7 +2,7 @@
 ghost use Rattle.std.specs.Prelude.{◌≡◌, IfOk, string_bytes};
 ghost use Rattle.serde_json.specs.Data.{string};
 ghost use Rattle.serde_json.specs.View.{view};
-ghost use Rattle.pmt_explain_json.specs.Parts.{or_null, count_data};
+ghost use Rattle.pmt_explain_json.specs.Entries.{or_null, count_data};
 ghost use Rattle.pmt_asked.specs.Choosing.{kind_name};
 ghost use Rattle.pmt_explain_json.specs.Lines.{asked_data, byte_range_data, more_data, summary_data};
 

@@ -3,8 +3,8 @@ ghost use Rattle.std.specs.Prelude.{◌≡◌, ◌++◌, IfOk, OnOk};
 ghost use Rattle.std.specs.List.{flat_map};
 ghost use Rattle.serde_json.specs.Data.{string};
 ghost use Rattle.serde_json.specs.View.{view};
-ghost use Rattle.pmt_explain_json.specs.Parts.{line_data, or_null};
-ghost use Rattle.pmt_explain_json.specs.Tables.{late_data, late_line, spot_label, spot_line, table_lines};
+ghost use Rattle.pmt_explain_json.specs.Entries.{line_data, or_null};
+ghost use Rattle.pmt_explain_json.specs.Lines.{late_data, late_line, spot_label, spot_line, table_lines};
 
 use crate::hints::push_hints;
 use crate::lines::push_value;

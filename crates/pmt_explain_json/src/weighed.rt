@@ -4,9 +4,9 @@ ghost use Rattle.std.specs.List.{flat_map};
 ghost use Rattle.serde_json.specs.Data.{string};
 ghost use Rattle.serde_json.specs.View.{view};
 ghost use Rattle.pmt_hints.specs.declared.hint.HintKind.{HintKind as Kind};
-ghost use Rattle.pmt_explain_json.specs.Hints.{hint_name as hint_name_in};
-ghost use Rattle.pmt_explain_json.specs.Parts.{array_of, json_line, or_null};
-ghost use Rattle.pmt_explain_json.specs.Weighed.{entry_data, entry_line, members_of as members_in, place_of, site_at, site_data, sites_data, sites_left, subject_name as subject_in, told_entries as told_in, verdict_name as verdict_in, weight_name as weight_in, why_name as why_in};
+ghost use Rattle.pmt_explain_json.specs.Places.{hint_name as hint_name_in};
+ghost use Rattle.pmt_explain_json.specs.Entries.{array_of, json_line, or_null};
+ghost use Rattle.pmt_explain_json.specs.Lines.{entry_data, entry_line, members_of as members_in, place_of, site_at, site_data, sites_data, sites_left, subject_name as subject_in, told_entries as told_in, verdict_name as verdict_in, weight_name as weight_in, why_name as why_in};
 
 use crate::causes::cause_name;
 use crate::facts::{Facts, Why, facts_of};

@@ -1,7 +1,7 @@
 //! Words and addresses of events as texts.
 ghost use Rattle.std.specs.Prelude.{◌≡◌, ◌++◌, IfOk, OnOk, string_bytes};
 ghost use Rattle.pmt_text.specs.Spelling.{address, event_line};
-ghost use Rattle.pmt_explain_json.specs.Parts.{address_of as address_in};
+ghost use Rattle.pmt_explain_json.specs.Entries.{address_of as address_in};
 
 use pmt_model::{Event, Op, OutOfMemory};
 use pmt_text::write::push_number;

@@ -4,16 +4,10 @@ use Rattle.std.specs.Prelude.{slice_get, unwrap_or}
 use Rattle.std.proofs.lemmas.Bool.{cases_lt, cases_eq}
 use Rattle.std.proofs.lemmas.List.{length-set}
 use Rattle.std.proofs.lemmas.Option.{slice_get-get_or, get_or_from_slice_get, slice_get_within}
-use Rattle.pmt_model.specs.Machine.{Stores, Ends}
-use Rattle.pmt_model.specs.Traces.{Recording, IsAct, history, count_at}
-use Rattle.pmt_model.specs.Values.{Written}
-use Rattle.pmt_model.specs.Findings.{IsSafe}
+use Rattle.pmt_explanation.specs.Prelude.{Stores, Ends, Recording, IsAct, history, count_at, Written, IsSafe, IsPending, past_of, IsSafePlace, TellsSafe}
 use Rattle.pmt_laws.proofs.Histories.{act-within, history-step}
 use Rattle.pmt_safety.specs.Safety.{IsSafeFrom}
-use Rattle.pmt_reasons.specs.Causes.{IsPending}
-use Rattle.pmt_sweep.specs.SafePlaces.{IsSafePlace as TellsPlace}
-use Rattle.pmt_explain.specs.Following.{past_of}
-use Rattle.pmt_explain.specs.Saving.{IsSafePlace, TellsSafe}
+use Rattle.pmt_sweep.specs.Entries.{IsSafePlace as TellsPlace}
 
 -- what no run is without is safe
 never-pending : (T : Recording) (l k j : ℕ) → ¬ IsPending T l k j → IsSafe T l k j

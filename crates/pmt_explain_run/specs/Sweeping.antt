@@ -1,10 +1,8 @@
 -- A trace, and what a sweep has found in it.
 use Rattle.std.specs.Prelude.{◌≡◌, length}
-use Rattle.pmt_model.specs.Analyses.{IsFindings, IsVerdicts}
-use Rattle.pmt_model.specs.Keeping.{IsKeep}
-use Rattle.pmt_model.specs.Traces.{history, lines_of}
+use Rattle.pmt_laws.specs.Prelude.{IsFindings, IsVerdicts, IsKeep, history, lines_of}
 use Rattle.pmt_tables.specs.Flags.{marked_from}
-use Rattle.pmt_sweep.specs.SafePlaces.{AreSafePlaces}
+use Rattle.pmt_sweep.specs.Entries.{AreSafePlaces}
 use Rattle.pmt_explain_run.specs.declared.sweeping.SweptTrace.{SweptTrace}
 
 pub record IsSweptTrace (x : SweptTrace) : Type 0 where

@@ -1,7 +1,7 @@
 //! From which place on each store is safe, as an explanation takes it.
 ghost use Rattle.std.specs.Prelude.{◌≡◌, unwrap_or, IfOk};
-ghost use Rattle.pmt_sweep.specs.SafePlaces.{AreSafePlaces as AreEntries};
-ghost use Rattle.pmt_explain.specs.Saving.{AreSafePlaces};
+ghost use Rattle.pmt_sweep.specs.Entries.{AreSafePlaces as AreEntries};
+ghost use Rattle.pmt_explain.specs.Following.{AreSafePlaces};
 
 use pmt_model::{OutOfMemory, Trace};
 use pmt_sweep::SafePlaces;

@@ -4,17 +4,10 @@ use Rattle.std.specs.List.{All, AllByRecursion, slice_index_or}
 use Rattle.std.proofs.lemmas.List.Sorted.{All-permutation, IsPermutation-refl}
 use Rattle.std.proofs.lemmas.Option.{none-some, same_Some}
 use Rattle.pmt_model.specs.Traces.{Recording}
-use Rattle.pmt_explain.specs.Grouping.{Picks, AreGroups}
-use Rattle.pmt_causes.specs.declared.failure_keys.FailureKey.{FailureKey}
-use Rattle.pmt_causes.specs.declared.grouping.Group.{Group}
-use Rattle.pmt_causes.specs.declared.grouping.Keyed.{Keyed}
-use Rattle.pmt_causes.specs.FailureKeys.{AreFailureGroups, IsKeyed}
-use Rattle.pmt_causes.specs.Groups.{AreGrouped, IsIn, Tells, first_in}
+use Rattle.pmt_explanation.specs.Prelude.{Picks, AreGroups, FailureKey, Group, Keyed, AreFailureGroups, IsKeyed, AreGrouped, IsIn, Tells, first_in, Fails, AreShown, ShownFailure}
 use Rattle.pmt_causes.proofs.KeyLemmas.{keyed-none}
 use Rattle.pmt_causes.proofs.MemberLemmas.{each-map, from-each, picks-each, to-each}
-use Rattle.pmt_explanation.specs.Causing.{first_members}
-use Rattle.pmt_failures.specs.Showing.{Fails, AreShown}
-use Rattle.pmt_failures.specs.declared.failures.ShownFailure.{ShownFailure}
+use Rattle.pmt_explanation.specs.Explaining.{first_members}
 use Rattle.pmt_failures.proofs.ShowingLemmas.{all-picked, all-take, failure-fails, number_of}
 
 -- ---- The first members of groups

@@ -3,13 +3,10 @@ use Rattle.std.proofs.Common.{◌≡◌, ℕ, zero, suc, ◌+◌, ◌-◌, ◌<�
 use Rattle.std.specs.Prelude.{option_map, slice_get, slice_index_or, unwrap_or}
 use Rattle.std.proofs.lemmas.Bool.{cases_lt}
 use Rattle.std.proofs.lemmas.Option.{slice_get-get_or, slice_get_past}
-use Rattle.pmt_causes.specs.Labels.{label_of as number_of}
+use Rattle.pmt_causes.specs.Groups.{label_of as number_of}
 use Rattle.pmt_explain.proofs.GroupingLemmas.{get-before, get-last}
-use Rattle.pmt_asked.specs.declared.labels.Labels.{Labels}
-use Rattle.pmt_asked.specs.Labelling.{label_of}
-use Rattle.pmt_explanation.specs.Numbering.{AreLabelNumbers, IsLabelNumber}
-use Rattle.pmt_asked.specs.Framing.{frame_of, inner_frame}
-use Rattle.pmt_explanation.specs.Framing.{AreFrameNumbers, IsFrameAmong, IsFrameNumber}
+use Rattle.pmt_explanation.specs.Prelude.{Labels, label_of, frame_of, inner_frame}
+use Rattle.pmt_explanation.specs.Summing.{AreLabelNumbers, IsLabelNumber, AreFrameNumbers, IsFrameAmong, IsFrameNumber}
 
 -- an event with the same label has the same frame
 pub framed : (labels : Labels) (i : ℕ) (text : List ℕ) → label_of labels i ≡ Some text → frame_of labels i ≡ Some (inner_frame text)

@@ -2,9 +2,9 @@
 use Rattle.std.proofs.Common.{◌≡◌, ℕ, zero, suc, ◌+◌, ◌<◌, ◌≤◌, ◌⊎◌, inl, inr, List, [], ◌∷◌, ◌++◌, length, length-append, Option, None, Some, refl, sym, ap, ◌∙◌, subst, arith}
 use Rattle.std.specs.Prelude.{slice_get, unwrap_or}
 use Rattle.std.proofs.lemmas.Bool.{cases_lt}
-use Rattle.pmt_causes.specs.Labels.{label_of as number_of}
+use Rattle.pmt_causes.specs.Groups.{label_of as number_of}
 use Rattle.pmt_asked.specs.declared.labels.Labels.{Labels}
-use Rattle.pmt_explanation.specs.Numbering.{AreLabelNumbers, IsLabelNumber}
+use Rattle.pmt_explanation.specs.Summing.{AreLabelNumbers, IsLabelNumber}
 
 front-of : {X : Type 0} (xs : List X) (x : X) (k : ℕ) → k < length xs → slice_get (xs ++ x ∷ []) k ≡ slice_get xs k
 front-of [] x k below = absurd (omega (arith, below))

@@ -1,11 +1,3 @@
-pub mod Asking
-pub mod Causing
-pub mod Counting
 pub mod Explaining
-pub mod Finding
-pub mod Framing
-pub mod Hinting
-pub mod Losing
-pub mod Numbering
-pub mod Status
 pub mod Summing
+pub mod Prelude

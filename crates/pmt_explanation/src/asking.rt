@@ -1,7 +1,6 @@
 //! The findings that are asked for.
 ghost use Rattle.std.specs.Prelude.{◌≡◌, IfOk};
-ghost use Rattle.pmt_explanation.specs.Asking.{asked_dropped, asked_numbers as numbers_asked, asked_hints as hints_asked, asked_pairs as pairs_asked, asked_unwritten, is_pair_asked as pair_asked};
-ghost use Rattle.pmt_explanation.specs.Causing.{asked_items};
+ghost use Rattle.pmt_explanation.specs.Explaining.{asked_dropped, asked_numbers as numbers_asked, asked_hints as hints_asked, asked_pairs as pairs_asked, asked_unwritten, is_pair_asked as pair_asked, asked_items};
 ghost use Rattle.pmt_asked.specs.Choosing.{is_asked_for as asked_for};
 ghost use Rattle.pmt_asked.specs.declared.choosing.Kind.TheVariants.{Late};
 

@@ -1,10 +1,8 @@
 //! Findings in groups, by what they have in common.
 ghost use Rattle.std.specs.Prelude.{◌≡◌, IfOk};
-ghost use Rattle.pmt_causes.specs.FailureKeys.{AreFailureGroups};
-ghost use Rattle.pmt_causes.specs.Groups.{first_in};
-ghost use Rattle.pmt_causes.specs.Late.{AreWaited};
+ghost use Rattle.pmt_entries.specs.Prelude.{AreFailureGroups, first_in, AreWaited};
 ghost use Rattle.pmt_asked.specs.Choosing.{is_asked_for as asked_for};
-ghost use Rattle.pmt_explanation.specs.Causing.{AreAskedLate, first_members as first_members_of};
+ghost use Rattle.pmt_explanation.specs.Explaining.{AreAskedLate, first_members as first_members_of};
 ghost use Rattle.pmt_asked.specs.declared.choosing.Kind.TheVariants.{Late};
 
 use crate::asking::keep_asked;

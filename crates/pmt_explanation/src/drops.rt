@@ -1,6 +1,6 @@
 //! What an explanation has of flushes and fences that are dropped.
 ghost use Rattle.std.specs.Prelude.{IfOk};
-ghost use Rattle.pmt_explanation.specs.Finding.{AreDrops};
+ghost use Rattle.pmt_explanation.specs.Explaining.{AreDrops};
 
 use crate::asking::asked_drops;
 use pmt_asked::{Labels, Options};

@@ -3,7 +3,7 @@ ghost use Rattle.std.specs.Prelude.{◌≡◌, IfOk};
 ghost use Rattle.pmt_explanation.specs.Explaining.{AreParts, IsExplanation};
 ghost use Rattle.pmt_asked.specs.declared.options.Options.{Options};
 ghost use Rattle.pmt_asked.specs.declared.labels.Labels.{Labels};
-ghost use Rattle.pmt_explain.specs.Saving.{AreSafePlaces};
+ghost use Rattle.pmt_explain.specs.Following.{AreSafePlaces};
 
 use crate::found::{Begun, Found, found_of};
 use crate::frames::frame_numbers;

@@ -1,10 +1,8 @@
 //! What an explanation has of assertions that fail.
 ghost use Rattle.std.specs.Prelude.{◌≡◌, take, IfOk};
-ghost use Rattle.pmt_causes.specs.FailureKeys.{AreFailureGroups};
-ghost use Rattle.pmt_explanation.specs.Asking.{asked_numbers as numbers_asked};
-ghost use Rattle.pmt_explanation.specs.Causing.{first_members as firsts_of};
-ghost use Rattle.pmt_failures.specs.Failing.{failing_events as failing_of};
-ghost use Rattle.pmt_failures.specs.Showing.{AreShown};
+ghost use Rattle.pmt_causes.specs.Groups.{AreFailureGroups};
+ghost use Rattle.pmt_explanation.specs.Explaining.{asked_numbers as numbers_asked, first_members as firsts_of};
+ghost use Rattle.pmt_failures.specs.Showing.{failing_events as failing_of, AreShown};
 ghost use Rattle.pmt_asked.specs.declared.choosing.Kind.TheVariants.{Failure};
 
 use crate::asking::asked_numbers;

@@ -1,6 +1,6 @@
 //! What other parts of an explanation need, by two threads side by side.
 ghost use Rattle.std.specs.Prelude.{◌≡◌, IfOk};
-ghost use Rattle.pmt_explanation.specs.Finding.{AreFirsts};
+ghost use Rattle.pmt_explanation.specs.Explaining.{AreFirsts};
 
 use crate::causing::{AskedLate, asked_late};
 use pmt_analysis::Analysis;

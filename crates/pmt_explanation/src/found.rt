@@ -1,8 +1,7 @@
 //! What is found in an analysed trace, by up to four threads side by side: first what the analysis alone tells, and then what needs that.
 ghost use Rattle.std.specs.Prelude.{◌≡◌, ℕ, IfOk, List, Option};
 ghost use Rattle.std.specs.Thread.{IsSync};
-ghost use Rattle.pmt_explanation.specs.Finding.{AreBegun, AreBroken, AreDrops, AreFirsts, AreFound, AreLost, ArePlacesOf, AreTold};
-ghost use Rattle.pmt_explanation.specs.Hinting.{AreEarly, AreHints, AreLate};
+ghost use Rattle.pmt_explanation.specs.Explaining.{AreBegun, AreBroken, AreDrops, AreFirsts, AreFound, AreLost, ArePlacesOf, AreTold, AreEarly, AreHints, AreLate};
 
 use crate::asking::asked_hints;
 use crate::drops::{Drops, drops_of};

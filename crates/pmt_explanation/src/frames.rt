@@ -1,7 +1,6 @@
 //! The numbers of innermost frames.
 ghost use Rattle.std.specs.Prelude.{◌≡◌, ◌+◌, ◌-◌, ◌^◌, ◌<◌, length, IfOk, OnOk};
-ghost use Rattle.pmt_explanation.specs.Framing.{AreFirstFrames, AreFrameNumbers, IsFrameNumber};
-ghost use Rattle.pmt_explanation.specs.Numbering.{AreLabelNumbers, IsLabelNumber, first_in};
+ghost use Rattle.pmt_explanation.specs.Summing.{AreFirstFrames, AreFrameNumbers, IsFrameNumber, AreLabelNumbers, IsLabelNumber, first_in};
 
 use crate::numbering::{Firsts, first_with};
 use pmt_asked::{Labels, frame_of};

@@ -1,7 +1,7 @@
 //! All hints of a trace.
 ghost use Rattle.std.specs.Prelude.{◌≡◌, ◌++◌, IfOk};
 ghost use Rattle.pmt_causes.specs.Late.{AreWaited};
-ghost use Rattle.pmt_explanation.specs.Hinting.{AreEarly, AreLate, AreOpenHints};
+ghost use Rattle.pmt_explanation.specs.Explaining.{AreEarly, AreLate, AreOpenHints};
 
 use pmt_analysis::Analysis;
 use pmt_explain::SafePlaces;

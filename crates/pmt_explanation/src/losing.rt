@@ -1,6 +1,6 @@
 //! Stores that are never persisted or overwritten, without those that are ignored.
 ghost use Rattle.std.specs.Prelude.{◌≡◌, IfOk};
-ghost use Rattle.pmt_explanation.specs.Losing.{lost_store as lost_of, overwriting as overwriting_of, told_pairs, told_stores};
+ghost use Rattle.pmt_explanation.specs.Explaining.{lost_store as lost_of, overwriting as overwriting_of, told_pairs, told_stores};
 
 use pmt_asked::{Ignored, Labels, is_left_out};
 use pmt_explain::Overwriting;

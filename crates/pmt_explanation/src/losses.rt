@@ -1,11 +1,8 @@
 //! What an explanation has of stores that are never persisted.
 ghost use Rattle.std.specs.Prelude.{◌≡◌, ◌-◌, IfOk, count_by, is_some, length};
 ghost use Rattle.std.specs.List.{filter_map};
-ghost use Rattle.pmt_causes.specs.Groups.{AreGrouped};
-ghost use Rattle.pmt_causes.specs.LostCauses.{lost_item};
-ghost use Rattle.pmt_explain.specs.LostGroups.{AreLostGroups};
-ghost use Rattle.pmt_explanation.specs.Asking.{asked_numbers as numbers_asked};
-ghost use Rattle.pmt_explanation.specs.Losing.{lost_store as lost_of};
+ghost use Rattle.pmt_entries.specs.Prelude.{AreGrouped, lost_item, AreLostGroups};
+ghost use Rattle.pmt_explanation.specs.Explaining.{asked_numbers as numbers_asked, lost_store as lost_of};
 ghost use Rattle.pmt_asked.specs.declared.choosing.Kind.TheVariants.{NeverPersisted};
 
 use crate::asking::asked_numbers;

@@ -1,6 +1,6 @@
 //! The numbers of labels.
 ghost use Rattle.std.specs.Prelude.{◌≡◌, ◌+◌, ◌-◌, ◌^◌, ◌<◌, ℕ, List, Some, IfOk, OnOk, bytes_eq, if◌then◌else◌, unwrap_or};
-ghost use Rattle.pmt_explanation.specs.Numbering.{AreFirsts, AreLabelNumbers, IsLabelNumber, first_in};
+ghost use Rattle.pmt_explanation.specs.Summing.{AreFirsts, AreLabelNumbers, IsLabelNumber, first_in};
 
 use pmt_asked::Labels;
 use pmt_model::OutOfMemory;

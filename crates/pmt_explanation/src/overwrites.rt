@@ -1,8 +1,7 @@
 //! What an explanation has of stores that are overwritten.
 ghost use Rattle.std.specs.Prelude.{◌≡◌, ◌-◌, IfOk, count_by, is_some, length};
 ghost use Rattle.pmt_explain.specs.OverwrittenGroups.{AreOverwrittenGroups};
-ghost use Rattle.pmt_explanation.specs.Asking.{asked_pairs as pairs_asked};
-ghost use Rattle.pmt_explanation.specs.Losing.{overwriting as overwriting_of, told_pairs};
+ghost use Rattle.pmt_explanation.specs.Explaining.{asked_pairs as pairs_asked, overwriting as overwriting_of, told_pairs};
 
 use crate::asking::keep_asked_pairs;
 use crate::losing::{overwriting, overwritings};

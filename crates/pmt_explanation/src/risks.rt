@@ -1,8 +1,7 @@
 //! What an explanation has of what a crash may lose, in two parts that need nothing of each other.
 ghost use Rattle.std.specs.Prelude.{◌≡◌, IfOk};
-ghost use Rattle.pmt_explanation.specs.Asking.{asked_unwritten};
-ghost use Rattle.pmt_explanation.specs.Finding.{AreBroken, AreLost};
-ghost use Rattle.pmt_failures.specs.Unwriting.{unwritten_of};
+ghost use Rattle.pmt_explanation.specs.Explaining.{asked_unwritten, AreBroken, AreLost};
+ghost use Rattle.pmt_failures.specs.Showing.{unwritten_of};
 
 use crate::asking::asked_unwrittens;
 use crate::failed::{Failed, failed_of};

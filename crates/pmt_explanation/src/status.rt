@@ -1,8 +1,8 @@
 //! The status of a run, by its explanation.
 ghost use Rattle.std.specs.Prelude.{◌≡◌};
-ghost use Rattle.pmt_entries.specs.Verdicts.{is_any_with};
+ghost use Rattle.pmt_entries.specs.Entries.{is_any_with};
 ghost use Rattle.pmt_entries.specs.declared.weight.Weight.TheVariants.{Suspect};
-ghost use Rattle.pmt_explanation.specs.Status.{fails};
+ghost use Rattle.pmt_explanation.specs.Summing.{fails};
 
 use crate::explaining::Explanation;
 use pmt_entries::{Verdict, Weight, is_any_of};

@@ -1,19 +1,8 @@
 -- What is told to mend a failure mends it.
 use Rattle.std.proofs.Common.{◌≡◌, ℕ, true, Option, None, Some, refl, sym, ap, ◌∙◌, subst, eqb-true, true≢false}
 use Rattle.std.specs.Prelude.{nat_eq, unwrap_or}
-use Rattle.std.specs.Option.{option_eq}
 use Rattle.std.proofs.lemmas.Option.{none-some, same_Some}
-use Rattle.pmt_model.specs.Values.{Layout, Written, line_of}
-use Rattle.pmt_model.specs.declared.event.Event.{Event}
-use Rattle.pmt_model.specs.declared.event.Op.{Op}
-use Rattle.pmt_model.specs.declared.event.Op.TheVariants.{Store, Clwb, ClflushOpt, Clflush, Sfence, Mfence, IsPersist, IsOrderedBefore}
-use Rattle.pmt_model.specs.Machine.{Stores}
-use Rattle.pmt_model.specs.Traces.{Recording, IsAct, act_of, event}
-use Rattle.pmt_reasons.specs.declared.cause.Cause.{Cause}
-use Rattle.pmt_reasons.specs.declared.failure.ByteStore.{ByteStore}
-use Rattle.pmt_reasons.specs.declared.failure.Failure.{Failure}
-use Rattle.pmt_reasons.specs.Failures.{IsFailureAt}
-use Rattle.pmt_reasons.specs.Mends.{mend_of, KeepsInLine, MendsFailure}
+use Rattle.pmt_explain.specs.Prelude.{Layout, Written, line_of, Event, Op, Store, Clwb, ClflushOpt, Clflush, Sfence, Mfence, IsPersist, IsOrderedBefore, Stores, Recording, IsAct, act_of, event, option_eq, Cause, ByteStore, Failure, IsFailureAt, mend_of, KeepsInLine, MendsFailure}
 use Rattle.pmt_reasons.proofs.MendLaws.{failure_is_mended}
 use Rattle.pmt_explain.specs.CauseOf.{IsStoreCause}
 use Rattle.pmt_failures.specs.Showing.{stored_line, event_line, store_line, keeps_same_line, failure_mend}

@@ -1,18 +1,11 @@
 -- The failures that are shown are those of the events, in order.
 use Rattle.std.proofs.Common.{◌≡◌, ℕ, zero, suc, inl, inr, ◌<◌, ◌≤◌, ◌==◌, Bool, true, false, List, [], ◌∷◌, ◌++◌, take, map, Option, None, Some, sym, ap, subst, ◌∙◌, arith, true≢false}
 use Rattle.std.specs.Prelude.{MatchOption}
-use Rattle.std.specs.List.{All, AllByRecursion}
 use Rattle.std.proofs.lemmas.List.{map-append}
 use Rattle.std.proofs.lemmas.List.Elements.{All-push}
 use Rattle.std.proofs.lemmas.Bool.{cond_both}
-use Rattle.pmt_model.specs.declared.event.Event.{Event}
-use Rattle.pmt_model.specs.declared.event.Op.{Op}
-use Rattle.pmt_model.specs.declared.event.Op.TheVariants.{Store, Clwb, ClflushOpt, Clflush, Sfence, Mfence, IsPersist, IsOrderedBefore}
-use Rattle.pmt_model.specs.Traces.{Recording, event, history, count_at}
-use Rattle.pmt_model.specs.Fronts.{front_at}
+use Rattle.pmt_explain.specs.Prelude.{Event, Op, Store, Clwb, ClflushOpt, Clflush, Sfence, Mfence, IsPersist, IsOrderedBefore, Recording, event, history, count_at, front_at, All, AllByRecursion, Failure, persisted_at, IsLost, IsFailureOf, IsFailureAt}
 use Rattle.pmt_laws.proofs.Histories.{front-le-count}
-use Rattle.pmt_reasons.specs.declared.failure.Failure.{Failure}
-use Rattle.pmt_reasons.specs.Failures.{persisted_at, IsLost, IsFailureOf, IsFailureAt}
 use Rattle.pmt_reasons.proofs.CauseLemmas.{pending_by_fronts}
 use Rattle.pmt_reasons.proofs.FailureLaws.{persist_failure_fails, ordered_failure_fails}
 use Rattle.pmt_explain.specs.CauseOf.{IsCauseOf}

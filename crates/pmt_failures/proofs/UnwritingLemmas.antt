@@ -1,23 +1,15 @@
 -- What is told of the events of a trace, one event more.
 use Rattle.std.proofs.Common.{◌≡◌, ℕ, zero, suc, ◌+◌, ◌<◌, ◌≤◌, inl, inr, length, get_or, Bool, true, false, ◌||◌, List, [], ◌∷◌, ◌++◌, Option, Some, None, refl, sym, ap, subst, ◌∙◌, arith, true≢false}
 use Rattle.std.specs.Prelude.{is_some, if◌then◌else◌, slice_get}
-use Rattle.std.specs.Option.{option_to_list}
-use Rattle.std.specs.List.{list_any, cons_option, filter_map, range_with_len}
 use Rattle.std.proofs.lemmas.Bool.{cases_lt, or_left, or_right}
 use Rattle.std.proofs.lemmas.List.Elements.{filter_map-append}
 use Rattle.std.proofs.lemmas.Option.{slice_get-get_or, slice_get_cases}
-use Rattle.pmt_model.specs.Values.{Layout, Span}
-use Rattle.pmt_model.specs.declared.event.Event.{Event}
-use Rattle.pmt_model.specs.declared.event.Op.{Op}
-use Rattle.pmt_model.specs.declared.event.Op.TheVariants.{Store, Clwb, ClflushOpt, Clflush, Sfence, Mfence, IsPersist, IsOrderedBefore}
-use Rattle.pmt_model.specs.Machine.{Act, writes}
-use Rattle.pmt_model.specs.Traces.{Recording, act_of, event, history}
-use Rattle.pmt_model.specs.Assertions.{last_store}
+use Rattle.pmt_laws.specs.Prelude.{Layout, Span, Event, Op, Store, Clwb, ClflushOpt, Clflush, Sfence, Mfence, IsPersist, IsOrderedBefore, Act, writes, Recording, act_of, event, history, last_store, option_to_list, list_any, cons_option, filter_map, range_with_len}
 use Rattle.pmt_laws.proofs.Histories.{history-suc}
 use Rattle.pmt_explain.specs.LastStores.{written_by}
 use Rattle.pmt_failures.specs.declared.unwritten.Noted.{Noted}
 use Rattle.pmt_failures.specs.declared.unwritten.Unwritten.{Unwritten}
-use Rattle.pmt_failures.specs.Unwriting.{AreNoted, has_byte, is_written, unless_written, entry_of, op_unwritten, event_unwritten, unwritten_at, unwritten_among}
+use Rattle.pmt_failures.specs.Showing.{AreNoted, has_byte, is_written, unless_written, entry_of, op_unwritten, event_unwritten, unwritten_at, unwritten_among}
 
 -- ---- The bytes that are written, one event more
 

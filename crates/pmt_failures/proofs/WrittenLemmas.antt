@@ -1,7 +1,6 @@
 -- The bytes that stores have written, by blocks of 64.
 use Rattle.std.proofs.Common.{◌≡◌, ℕ, zero, suc, ◌+◌, ◌-◌, ◌*◌, ◌/◌, ◌%◌, ◌^◌, ◌<◌, ◌≤◌, min, max, inl, inr, Bool, true, false, ◌&&◌, ◌||◌, length, [], refl, sym, ap, ◌∙◌, arith, true≢false}
 use Rattle.std.specs.Prelude.{cond, not, IsTrue, IsFalse, nat_eq, nat_le, nat_lt}
-use Rattle.std.specs.List.{list_any, range_with_len}
 use Rattle.std.specs.Int.{bit_at, trailing_zeros, w64}
 use Rattle.std.specs.Int.Bits.{bit_and, bit_or}
 use Rattle.std.proofs.lemmas.Bool.{cases_eq, cases_lt, le-leb, lt-leb, lt-ltb, le-ltb, eq-eqb, ne_eqb, and_from, and_left, and_right, or_left, or_right, or_from, cond-true, cond-false}
@@ -9,10 +8,9 @@ use Rattle.std.proofs.Math.Nat.{one-le-pow, pow-le-pow_right}
 use Rattle.std.proofs.lemmas.Grind.{one_shifted}
 use Rattle.std.proofs.lemmas.Nat.{and_le_l}
 use Rattle.std.proofs.lemmas.Nat.Bits.{bit_at-lt, bit_at-trailing_zeros, bit_at-zero, bit_at_and, bit_at_or, bit_at_mask_above, bit_at_mask_below, bit_at_mask_inside}
-use Rattle.pmt_model.specs.Values.{Written, IsStore}
-use Rattle.pmt_model.specs.Machine.{writes}
+use Rattle.pmt_laws.specs.Prelude.{Written, IsStore, writes, list_any, range_with_len}
 use Rattle.pmt_failures.specs.declared.written.WrittenBytes.{WrittenBytes}
-use Rattle.pmt_failures.specs.Unwriting.{bits_of, has_byte}
+use Rattle.pmt_failures.specs.Showing.{bits_of, has_byte}
 
 -- ---- Whether one of the numbers in a row passes a test
 

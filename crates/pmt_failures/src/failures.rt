@@ -1,8 +1,7 @@
 //! Failed assertions in full.
 ghost use Rattle.std.specs.Prelude.{◌≡◌, IfOk, MatchOption, None};
 ghost use Rattle.pmt_reasons.specs.Failures.{IsFailureAt};
-ghost use Rattle.pmt_failures.specs.Failing.{failing_events as failing_in};
-ghost use Rattle.pmt_failures.specs.Showing.{AreRangesAfter, AreShown, IsRangeAfter, IsShown, IsShownCrash, failure_mend, lines_with_loss, store_line};
+ghost use Rattle.pmt_failures.specs.Showing.{failing_events as failing_in, AreRangesAfter, AreShown, IsRangeAfter, IsShown, IsShownCrash, failure_mend, lines_with_loss, store_line};
 
 use crate::mending::mend_for;
 use pmt_explain::{CrashByte, LineCount, SafePlaces, cause, crash_bytes, crash_lines, failure_by};

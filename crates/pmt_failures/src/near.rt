@@ -1,9 +1,8 @@
 //! Bytes that one of the few last events writes.
 ghost use Rattle.std.specs.Prelude.{◌≡◌, ◌≤◌, length, true, IsTrue};
-ghost use Rattle.std.specs.List.{list_any, range_with_len};
-ghost use Rattle.pmt_model.specs.Traces.{history};
+ghost use Rattle.pmt_laws.specs.Prelude.{list_any, range_with_len, history};
 ghost use Rattle.pmt_explain.specs.LastStores.{written_by};
-ghost use Rattle.pmt_failures.specs.Unwriting.{is_written};
+ghost use Rattle.pmt_failures.specs.Showing.{is_written};
 
 use pmt_model::{Op, Range, Trace};
 

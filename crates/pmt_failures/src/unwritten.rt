@@ -1,8 +1,7 @@
 //! Assertions on bytes that no store has written.
 ghost use Rattle.std.specs.Prelude.{◌≡◌, ◌<◌, ◌++◌, None, length, IfOk, OnOk};
-ghost use Rattle.std.specs.Option.{option_to_list};
-ghost use Rattle.pmt_model.specs.Traces.{history};
-ghost use Rattle.pmt_failures.specs.Unwriting.{AreNoted, entry_of as entry_in, is_written, op_unwritten, unless_written as unless_in, unwritten_of};
+ghost use Rattle.pmt_laws.specs.Prelude.{option_to_list, history};
+ghost use Rattle.pmt_failures.specs.Showing.{AreNoted, entry_of as entry_in, is_written, op_unwritten, unless_written as unless_in, unwritten_of};
 
 use crate::near::is_written_near;
 use crate::written::WrittenBytes;

@@ -1,11 +1,10 @@
 //! The bytes that stores have written, by blocks of 64.
 ghost use Rattle.std.specs.Prelude.{◌≡◌, ◌-◌, ◌^◌, ◌≤◌, ◌<◌, ◌||◌, nat_eq, ℕ, cond, IsTrue, IsFalse, OnOk, []};
-ghost use Rattle.std.specs.List.{list_any, range_with_len};
+ghost use Rattle.pmt_laws.specs.Prelude.{list_any, range_with_len, writes};
 ghost use Rattle.std.specs.Int.{bit_at};
 ghost use Rattle.std.specs.Int.Bits.{bit_or};
-ghost use Rattle.pmt_model.specs.Machine.{writes};
 ghost use Rattle.pmt_explain.specs.LastStores.{written_by};
-ghost use Rattle.pmt_failures.specs.Unwriting.{bits_of, has_byte};
+ghost use Rattle.pmt_failures.specs.Showing.{bits_of, has_byte};
 
 use pmt_model::{Op, OutOfMemory, Range, WordStore};
 use std::alloc::Global;

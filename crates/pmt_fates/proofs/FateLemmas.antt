@@ -3,8 +3,7 @@ use Rattle.std.proofs.Common.{◌≡◌, ℕ, suc, ◌+◌, ◌<◌, ◌≤◌, 
 use Rattle.std.specs.Prelude.{slice_get, slice_index}
 use Rattle.std.proofs.lemmas.Bool.{cases_lt}
 use Rattle.std.proofs.lemmas.Option.{same_Some}
-use Rattle.pmt_model.specs.declared.event.Event.{Event}
-use Rattle.pmt_model.specs.Traces.{Recording, event}
+use Rattle.pmt_laws.specs.Prelude.{Event, Recording, event}
 use Rattle.pmt_explain.proofs.GroupingLemmas.{get-before, get-last}
 use Rattle.pmt_fates.specs.declared.fate.Fate.{Fate}
 use Rattle.pmt_fates.specs.Fates.{event_fate, is_listed, op_fate}

@@ -1,27 +1,13 @@
 -- Numbers of a list, marked one after another.
 use Rattle.std.proofs.Common.{◌≡◌, ◌≢◌, ℕ, zero, suc, ◌+◌, ◌<◌, ◌≤◌, ◌⊎◌, inl, inr, Bool, true, false, List, [], ◌∷◌, length, map, take, get_or, set, get_or-set_same, get_or-set_other, Some, refl, sym, ap, subst, ◌∙◌, arith}
-use Rattle.std.specs.Prelude.{◌==◌, ◌||◌, replicate, slice_get}
+use Rattle.std.specs.Prelude.{◌==◌, ◌||◌, slice_get}
 use Rattle.std.proofs.lemmas.Bool.{cases_lt, cases_eq, eq-eqb, ne_eqb, lt-ltb, le-ltb}
 use Rattle.std.proofs.lemmas.List.{length-set}
 use Rattle.std.proofs.lemmas.List.Folds.{list_any_more}
-use Rattle.std.proofs.lemmas.Option.{none-some, same_Some, slice_get-get_or, get_or_from_slice_get, slice_get_within}
+use Rattle.std.proofs.lemmas.Option.{slice_get-get_or, get_or_from_slice_get, slice_get_within}
 use Rattle.pmt_explain.specs.declared.dropped_event.Dropped.{Dropped}
 use Rattle.pmt_explain.specs.Dropping.{event_of}
-use Rattle.pmt_fates.specs.Fates.{is_listed}
-use Rattle.pmt_fates.specs.Marks.{AreMarks, with_mark}
-
--- no number yet
-pub marks-start : (n : ℕ) (marks : List Bool) → marks ≡ replicate n false → AreMarks n [] marks
-marks-start n marks is = record { size = ap (λ (xs : List Bool). length xs) is ∙ size n; each = λ k b at. sym (none n k b (ap (λ (xs : List Bool). slice_get xs k) (sym is) ∙ at)) }
-  where
-    size : (m : ℕ) → length (replicate m false) ≡ m
-    size zero = refl
-    size (suc m) = ap suc (size m)
-
-    none : (m k : ℕ) (b : Bool) → slice_get (replicate m false) k ≡ Some b → false ≡ b
-    none zero k b at = absurd (none-some b at)
-    none (suc m) zero b at = same_Some false b at
-    none (suc m) (suc k) b at = none m k b at
+use Rattle.pmt_fates.specs.Fates.{is_listed, AreMarks, with_mark}
 
 or-false : (b : Bool) → (b || false) ≡ b
 or-false true = refl

@@ -1,24 +1,19 @@
 -- What places have, all together.
 use Rattle.std.proofs.Common.{◌≡◌, ℕ, zero, suc, ◌+◌, ◌<◌, ◌≤◌, ◌⊎◌, inl, inr, Bool, true, false, cond, List, [], ◌∷◌, ◌++◌, length, map, Option, None, refl, ap, ◌∙◌, arith}
 use Rattle.std.specs.Prelude.{if◌then◌else◌, nat_lt, nat_le, slice_get}
-use Rattle.std.specs.List.{AllByRecursion, count_by, sum_by}
 use Rattle.std.proofs.lemmas.Bool.{cases_lt}
 use Rattle.std.proofs.lemmas.List.Elements.{All-from_recursion}
 use Rattle.std.proofs.lemmas.List.Sorted.{All-permutation, sum_by-IsPermutation}
 use Rattle.std.proofs.lemmas.List.Sums.{sum_by-cons, sum_by_push}
 use Rattle.std.proofs.lemmas.Option.{slice_get_past}
-use Rattle.pmt_model.specs.declared.event.Op.{Op}
-use Rattle.pmt_model.specs.declared.event.Op.TheVariants.{Store, Clwb, ClflushOpt, Clflush, Sfence, Mfence, IsPersist, IsOrderedBefore}
-use Rattle.pmt_model.specs.Traces.{Recording, event}
+use Rattle.pmt_laws.specs.Prelude.{Op, Store, Clwb, ClflushOpt, Clflush, Sfence, Mfence, IsPersist, IsOrderedBefore, Recording, event, AllByRecursion, count_by, sum_by}
 use Rattle.pmt_laws.proofs.Histories.{event-some, event-none}
 use Rattle.pmt_explain.specs.Grouping.{Picks, AreGroups}
 use Rattle.pmt_causes.specs.declared.failure_keys.Origin.{Origin}
 use Rattle.pmt_causes.specs.declared.grouping.Group.{Group}
 use Rattle.pmt_causes.specs.declared.grouping.Keyed.{Keyed}
-use Rattle.pmt_causes.specs.Counted.{counted}
+use Rattle.pmt_causes.specs.Late.{counted, is_fence, is_flush, is_store, op_passes}
 use Rattle.pmt_causes.specs.Groups.{IsIn, Tells}
-use Rattle.pmt_causes.specs.Late.{is_fence}
-use Rattle.pmt_causes.specs.Ops.{is_flush, is_store, op_passes}
 use Rattle.pmt_causes.proofs.CountedLemmas.{counted-same}
 use Rattle.pmt_fates.specs.declared.fate.Fate.{Fate}
 use Rattle.pmt_fates.specs.declared.fate.Fate.TheVariants as fate

@@ -1,28 +1,23 @@
 -- The rows of all places, with one more event, and the groups that they tell of.
 use Rattle.std.proofs.Common.{◌≡◌, ℕ, zero, suc, ◌-◌, ◌^◌, ◌<◌, ◌≤◌, ◌⊎◌, inl, inr, Bool, true, false, cond, List, [], ◌∷◌, ◌++◌, length, length-append, set, get_or, Option, None, Some, refl, sym, ap, subst, ◌∙◌, arith}
 use Rattle.std.specs.Prelude.{if◌then◌else◌, reverse, slice_get, slice_index, unwrap_or}
-use Rattle.std.specs.List.{find}
-use Rattle.std.specs.Option.{option_map}
 use Rattle.std.proofs.lemmas.Bool.{eq-eqb}
 use Rattle.std.proofs.lemmas.Option.{none-some, same_Some, slice_get-get_or, slice_get-map}
 use Rattle.std.proofs.lemmas.List.{reverse-append}
 use Rattle.std.proofs.lemmas.List.Sums.{count_by-le-length, sum_by_push}
-use Rattle.pmt_model.specs.declared.event.Event.{Event}
-use Rattle.pmt_model.specs.Traces.{Recording, event}
+use Rattle.pmt_laws.specs.Prelude.{Event, Recording, event, find, option_map}
 use Rattle.pmt_explain.proofs.GroupingLemmas.{IsGathered, get-last, gathered-join, gathered-new, groups-told, places-within}
 use Rattle.pmt_causes.specs.declared.failure_keys.Origin.{Origin}
 use Rattle.pmt_causes.specs.declared.failure_keys.Origin.TheVariants.{Label, Thread}
 use Rattle.pmt_causes.specs.declared.grouping.Keyed.{Keyed}
-use Rattle.pmt_causes.specs.FailureKeys.{origin_of}
+use Rattle.pmt_causes.specs.Groups.{origin_of}
 use Rattle.pmt_causes.proofs.ExactFailures.{origin-exact}
 use Rattle.pmt_causes.proofs.GroupLemmas.{map-length}
 use Rattle.pmt_fates.specs.declared.fate.Fate.{Fate}
 use Rattle.pmt_fates.specs.declared.fate.Fate.TheVariants as fate
 use Rattle.pmt_fates.specs.declared.place_row.PlaceRow.{PlaceRow}
 use Rattle.pmt_fates.specs.declared.saved_before.SavedBefore.{SavedBefore}
-use Rattle.pmt_fates.specs.Places.{count_in, fate_at, find_in, find_last_in, is_fence_fate, is_flush_fate, is_in_time, is_missed, is_same, is_store_fate, origin_in, place_items, saved_at}
-use Rattle.pmt_fates.specs.Rows.{Finds, IsThere, IsNew, same_place}
-use Rattle.pmt_fates.specs.Tallies.{AreSmall, else_first, else_saved, more, row_at, with_fate}
+use Rattle.pmt_fates.specs.Places.{count_in, fate_at, find_in, find_last_in, is_fence_fate, is_flush_fate, is_in_time, is_missed, is_same, is_store_fate, origin_in, place_items, saved_at, Finds, IsThere, IsNew, same_place, AreSmall, else_first, else_saved, more, row_at, with_fate}
 use Rattle.pmt_fates.proofs.PlaceLemmas.{numbers, numbers-more}
 
 find-more : (P : ℕ → Bool) (xs : List ℕ) (i : ℕ) → else_first (P i) i (find P xs) ≡ find P (xs ++ i ∷ [])

@@ -7,7 +7,7 @@ use Rattle.pmt_causes.specs.declared.failure_keys.Origin.{Origin}
 use Rattle.pmt_causes.specs.declared.failure_keys.Origin.TheVariants.{Label, Thread}
 use Rattle.pmt_causes.proofs.ExactFailures.{origin-exact}
 use Rattle.pmt_fates.specs.declared.row_places.RowPlaces.{RowPlaces}
-use Rattle.pmt_fates.specs.Rows.{before, place_number, row_place, same_place}
+use Rattle.pmt_fates.specs.Places.{before, place_number, row_place, same_place}
 
 none-told : (n l d : ℕ) → d ≡ 0 → get_or (replicate n 0) l d ≡ 0
 none-told zero l d none = none

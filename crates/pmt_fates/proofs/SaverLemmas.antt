@@ -4,23 +4,15 @@ use Rattle.std.specs.Prelude.{◌==◌, if◌then◌else◌, nat_lt, replicate, 
 use Rattle.std.proofs.lemmas.Bool.{cases_lt, cases_eq, ne_eqb, lt-ltb, le-ltb, false≢true}
 use Rattle.std.proofs.lemmas.List.{length-set, length-replicate}
 use Rattle.std.proofs.lemmas.Option.{none-some, same_Some, slice_get-get_or, get_or_from_slice_get, slice_get_within, slice_get_past}
-use Rattle.pmt_model.specs.declared.event.Event.{Event}
-use Rattle.pmt_model.specs.declared.event.Op.{Op}
-use Rattle.pmt_model.specs.declared.event.Op.TheVariants.{Store, Clwb, ClflushOpt, Clflush, Sfence, Mfence, IsPersist, IsOrderedBefore}
-use Rattle.pmt_model.specs.Values.{Layout, Written, line_of}
-use Rattle.pmt_model.specs.Machine.{Act, Stores, Flushes, Clflushes, Fences, Asserts}
-use Rattle.pmt_model.specs.Traces.{Recording, IsAct, act_of, event}
+use Rattle.pmt_laws.specs.Prelude.{Event, Op, Store, Clwb, ClflushOpt, Clflush, Sfence, Mfence, IsPersist, IsOrderedBefore, Layout, Written, line_of, Act, Stores, Flushes, Clflushes, Fences, Asserts, Recording, IsAct, act_of, event}
 use Rattle.pmt_laws.proofs.Histories.{act-unique, act-within, event-some}
-use Rattle.pmt_explain.specs.Following.{IsFenceAfter, IsFirst, past_of}
-use Rattle.pmt_explain.specs.Saving.{AreSafePlaces, IsSafePlace, TellsSafe}
+use Rattle.pmt_explain.specs.Following.{IsFenceAfter, IsFirst, past_of, AreSafePlaces, IsSafePlace, TellsSafe, AreOwnFences}
 use Rattle.pmt_explain.proofs.GroupingLemmas.{get-before, get-last}
 use Rattle.pmt_fates.specs.declared.fate.Fate.{Fate}
 use Rattle.pmt_fates.specs.declared.fate.Fate.TheVariants.{Claim, Left}
 use Rattle.pmt_fates.specs.declared.saved_before.Savings.{Savings}
 use Rattle.pmt_fates.specs.Places.{fate_at, is_same}
-use Rattle.pmt_fates.specs.Saved.{IsOwnFence, IsSavedAt, TellsSaved}
-use Rattle.pmt_explain.specs.Upcoming.{AreOwnFences}
-use Rattle.pmt_fates.specs.Savers.{AreLast, AreSavers, IsLastBefore, IsSaver, saved_by, saved_if, with_saver}
+use Rattle.pmt_fates.specs.Fates.{IsOwnFence, IsSavedAt, TellsSaved, AreLast, AreSavers, IsLastBefore, IsSaver, saved_by, saved_if, with_saver}
 
 -- there is one first number
 first-unique : (P : ℕ → Type 0) (past a b : ℕ) → IsFirst P past a → IsFirst P past b → a ≡ b

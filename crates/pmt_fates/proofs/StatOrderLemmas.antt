@@ -7,7 +7,7 @@ use Rattle.std.proofs.lemmas.Bool.{cases_lt}
 use Rattle.std.proofs.lemmas.Option.{get_or_from_slice_get, slice_get_within}
 use Rattle.std.proofs.lemmas.List.Sorted.{IsPermutation-trans, IsNonDecreasingBy-from_sort, ties_still_rise}
 use Rattle.pmt_fates.specs.declared.costs.PlaceCost.{PlaceCost}
-use Rattle.pmt_fates.specs.Costs.{AreInOrder, ComesBefore, less, paid, wasted}
+use Rattle.pmt_fates.specs.Counting.{AreInOrder, ComesBefore, less, paid, wasted}
 
 abbrev pub less_paid : PlaceCost → ℕ
 less_paid p = less (paid p)

@@ -1,23 +1,15 @@
 -- What is counted, event by event.
 use Rattle.std.proofs.Common.{◌≡◌, ◌≢◌, ℕ, zero, suc, ◌+◌, ◌*◌, ◌<◌, ◌≤◌, ◌⊎◌, inl, inr, Bool, true, false, ◌==◌, ◌||◌, not, cond, List, [], ◌∷◌, ◌++◌, length, take, set, refl, sym, ap, subst, ◌∙◌, arith}
 use Rattle.std.specs.Prelude.{if◌then◌else◌, replicate, reverse, slice_index}
-use Rattle.std.specs.List.{AllByRecursion, sum_by}
 use Rattle.std.proofs.lemmas.Bool.{cases_eq, eq-eqb, ne_eqb}
 use Rattle.std.proofs.lemmas.List.{get_or-replicate, get_or-set_same, get_or-set_other, length-replicate, length-reverse, length-set, length-take, reverse-append}
 use Rattle.std.proofs.lemmas.List.Filters.{sum_by-filter_both}
 use Rattle.std.proofs.lemmas.List.Sums.{count_by-le-length, length-filter, sum_by-cons, sum_by-take-le}
-use Rattle.pmt_model.specs.declared.event.Event.{Event}
-use Rattle.pmt_model.specs.declared.event.Op.{Op}
-use Rattle.pmt_model.specs.declared.event.Op.TheVariants.{Store, Clwb, ClflushOpt, Clflush, Sfence, Mfence, IsPersist, IsOrderedBefore}
-use Rattle.pmt_model.specs.Traces.{Recording, IsEventIn, IsOp, IsTrace, event_limit}
-use Rattle.pmt_model.specs.Values.{Layout}
+use Rattle.pmt_laws.specs.Prelude.{Event, Op, Store, Clwb, ClflushOpt, Clflush, Sfence, Mfence, IsPersist, IsOrderedBefore, Recording, IsEventIn, IsOp, IsTrace, event_limit, Layout, AllByRecursion, sum_by}
 use Rattle.pmt_fates.specs.declared.counts.Counts.{Counts}
 use Rattle.pmt_fates.specs.declared.fences.FenceSizes.{FenceSizes}
 use Rattle.pmt_fates.specs.declared.figures.ThreadCounts.{ThreadCounts}
-use Rattle.pmt_fates.specs.Counting.{AreFew, by_thread, counts_of, is_clwb, is_clflushopt, is_sfence, is_mfence, stored, with_op}
-use Rattle.pmt_fates.specs.Fencing.{AreSizes, bar_of, fence_sizes, is_fence, is_fence_of, is_flush_of, waiting, with_size}
-use Rattle.pmt_fates.specs.Figures.{row_of, rows_below, thread_rows}
-use Rattle.pmt_fates.specs.Tallying.{AreSmall, IsTally, counts_in, sizes_after, waiting_after}
+use Rattle.pmt_fates.specs.Counting.{AreFew, by_thread, counts_of, is_clwb, is_clflushopt, is_sfence, is_mfence, stored, with_op, AreSizes, bar_of, fence_sizes, is_fence, is_fence_of, is_flush_of, waiting, with_size, row_of, rows_below, thread_rows, AreSmall, IsTally, counts_in, sizes_after, waiting_after}
 use Rattle.pmt_fates.proofs.CountingLemmas.{counts-push, few, threads-next}
 use Rattle.pmt_fates.proofs.FencingLemmas.{sizes-le, sizes-next, sum-le, waiting-le, waiting-next}
 

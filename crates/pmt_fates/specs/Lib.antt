@@ -1,14 +1,3 @@
 pub mod Fates
-pub mod Marks
-pub mod Paths
 pub mod Places
-pub mod Rows
-pub mod Saved
-pub mod Savers
-pub mod Standings
-pub mod Tallies
-pub mod Costs
 pub mod Counting
-pub mod Fencing
-pub mod Figures
-pub mod Tallying

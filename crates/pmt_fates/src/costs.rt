@@ -1,7 +1,7 @@
 //! What places pay for their flushes and fences.
 
 ghost use Rattle.std.specs.Prelude.{◌≡◌, OnOk};
-ghost use Rattle.pmt_fates.specs.Costs.{AreInOrder, cost_in, less, paid, wasted};
+ghost use Rattle.pmt_fates.specs.Counting.{AreInOrder, cost_in, less, paid, wasted};
 
 use crate::PlaceRow;
 use pmt_model::OutOfMemory;

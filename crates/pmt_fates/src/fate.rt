@@ -2,7 +2,7 @@
 
 ghost use Rattle.std.specs.Prelude.{◌≡◌, length, map, IfOk};
 ghost use Rattle.pmt_explain.specs.Dropping.{event_of};
-ghost use Rattle.pmt_explain.specs.Saving.{AreSafePlaces};
+ghost use Rattle.pmt_explain.specs.Following.{AreSafePlaces};
 ghost use Rattle.pmt_causes.specs.Late.{AreWaited};
 ghost use Rattle.pmt_fates.specs.Fates.{AreFates, fence_fate as fence_fate_in, flush_fate as flush_fate_in, op_fate, store_fate as store_fate_in};
 

@@ -2,8 +2,7 @@
 
 ghost use Rattle.std.specs.Prelude.{◌≡◌, ◌≤◌, ◌<◌, ◌*◌, ℕ, length, slice_index, []};
 ghost use Rattle.pmt_model.specs.Traces.{event_limit};
-ghost use Rattle.pmt_fates.specs.Fencing.{AreSizes, bar_of as bar_in, with_size};
-ghost use Rattle.pmt_fates.specs.Tallying.{AreSmall, sizes_after, waiting_after};
+ghost use Rattle.pmt_fates.specs.Counting.{AreSizes, bar_of as bar_in, with_size, AreSmall, sizes_after, waiting_after};
 
 use pmt_model::Op;
 

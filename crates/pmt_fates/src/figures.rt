@@ -1,9 +1,7 @@
 //! The figures of a trace.
 
 ghost use Rattle.std.specs.Prelude.{◌≡◌, ◌++◌, [], length, replicate, slice_set, IfOk, OnOk};
-ghost use Rattle.pmt_fates.specs.Counting.{AreFew, counts_of, with_op};
-ghost use Rattle.pmt_fates.specs.Figures.{AreFigures, row_of, rows_below};
-ghost use Rattle.pmt_fates.specs.Tallying.{counts_in};
+ghost use Rattle.pmt_fates.specs.Counting.{AreFew, counts_of, with_op, AreFigures, row_of, rows_below, counts_in};
 
 use crate::counts::Counts;
 use crate::fences::{FenceSizes, note};

@@ -2,8 +2,7 @@
 
 ghost use Rattle.std.specs.Prelude.{◌≡◌, ◌<◌, ℕ, suc, length, map, IfOk, slice_index_or, false};
 ghost use Rattle.pmt_explain.specs.Dropping.{event_of};
-ghost use Rattle.pmt_fates.specs.Fates.{is_listed};
-ghost use Rattle.pmt_fates.specs.Marks.{AreMarks, with_mark};
+ghost use Rattle.pmt_fates.specs.Fates.{is_listed, AreMarks, with_mark};
 
 use pmt_explain::Dropped;
 use pmt_model::OutOfMemory;

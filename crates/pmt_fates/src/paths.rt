@@ -1,10 +1,8 @@
 //! Where call paths are needed beside places; and those whose stores are saved one fence late, in places that save others sooner or later.
 
 ghost use Rattle.std.specs.Prelude.{◌≡◌, ℕ, List, filter, IfOk};
-ghost use Rattle.std.specs.List.{list_any};
-ghost use Rattle.pmt_model.specs.Traces.{event};
-ghost use Rattle.pmt_fates.specs.Paths.{AreLeftPaths, ArePaths, is_left as is_left_in, is_left_alone as is_left_alone_in, is_left_at as is_left_at_in, is_partly_left as is_partly_left_in, may_differ as may_differ_in, misses as misses_in, needs_paths as needs_paths_in};
-ghost use Rattle.pmt_fates.specs.Places.{origin_in};
+ghost use Rattle.pmt_laws.specs.Prelude.{list_any, event};
+ghost use Rattle.pmt_fates.specs.Places.{AreLeftPaths, ArePaths, is_left as is_left_in, is_left_alone as is_left_alone_in, is_left_at as is_left_at_in, is_partly_left as is_partly_left_in, may_differ as may_differ_in, misses as misses_in, needs_paths as needs_paths_in, origin_in};
 
 use crate::place_row::PlaceRow;
 use pmt_causes::{Origin, origin_of};

@@ -1,7 +1,7 @@
 //! What a place of the source has.
 
 ghost use Rattle.std.specs.Prelude.{◌≡◌};
-ghost use Rattle.pmt_fates.specs.Tallies.{row_at as row_with};
+ghost use Rattle.pmt_fates.specs.Places.{row_at as row_with};
 
 use crate::saved_before::SavedBefore;
 use pmt_causes::Origin;

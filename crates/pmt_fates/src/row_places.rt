@@ -3,7 +3,7 @@
 ghost use Rattle.std.specs.Prelude.{◌≡◌, ◌==◌, ℕ, nat_eq, replicate, if◌then◌else◌, unwrap_or, IfOk, OnOk};
 ghost use Rattle.std.specs.HashMap.{get};
 ghost use Rattle.pmt_causes.specs.declared.failure_keys.Origin.{Origin};
-ghost use Rattle.pmt_fates.specs.Rows.{label_number as label_number_in, place_number, row_place, same_place};
+ghost use Rattle.pmt_fates.specs.Places.{label_number as label_number_in, place_number, row_place, same_place};
 
 use pmt_causes::Origin;
 use pmt_model::OutOfMemory;

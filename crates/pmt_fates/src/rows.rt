@@ -1,10 +1,9 @@
 //! The rows of all places, event by event.
 
 ghost use Rattle.std.specs.Prelude.{◌≡◌, None, length, IfOk};
-ghost use Rattle.pmt_causes.specs.FailureKeys.{origin_of as origin_in};
-ghost use Rattle.pmt_fates.specs.Places.{place_items};
-ghost use Rattle.pmt_fates.specs.Rows.{AreRows, Finds, row_place};
-ghost use Rattle.pmt_fates.specs.Savers.{saved_by};
+ghost use Rattle.pmt_causes.specs.Groups.{origin_of as origin_in};
+ghost use Rattle.pmt_fates.specs.Places.{place_items, AreRows, Finds, row_place};
+ghost use Rattle.pmt_fates.specs.Fates.{saved_by};
 
 use crate::fate::Fate;
 use crate::place_row::{PlaceRow, row_at};

@@ -1,11 +1,10 @@
 //! What a crash keeps without a store that is saved one fence late.
 
 ghost use Rattle.std.specs.Prelude.{◌≡◌, ◌==◌, ℕ, Some, length, true, false, if◌then◌else◌, nat_lt, slice_get, slice_set, unwrap_or, IfOk};
-ghost use Rattle.pmt_explain.specs.Saving.{AreSafePlaces};
+ghost use Rattle.pmt_explain.specs.Following.{AreSafePlaces};
 ghost use Rattle.pmt_fates.specs.declared.fate.Fate.TheVariants.{Left};
 ghost use Rattle.pmt_fates.specs.Places.{fate_at, is_same};
-ghost use Rattle.pmt_fates.specs.Saved.{TellsSaved};
-ghost use Rattle.pmt_fates.specs.Savers.{AreLast, AreSavers, saved_by, saved_if, with_saver};
+ghost use Rattle.pmt_fates.specs.Fates.{TellsSaved, AreLast, AreSavers, saved_by, saved_if, with_saver};
 ghost use Rattle.pmt_model.specs.Traces.{Recording};
 
 use crate::fate::Fate;

@@ -1,7 +1,7 @@
 //! How places stand, and in which order they are told.
 
 ghost use Rattle.std.specs.Prelude.{◌≡◌, ◌+◌, ◌^◌, ◌<◌, ◌≤◌};
-ghost use Rattle.pmt_fates.specs.Standings.{most as most_in, rank, share, standing, step, weight};
+ghost use Rattle.pmt_fates.specs.Places.{most as most_in, rank, share, standing, step, weight};
 
 use crate::place_row::PlaceRow;
 

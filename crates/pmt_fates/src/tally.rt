@@ -1,8 +1,8 @@
 //! One more event in the row of its place.
 
 ghost use Rattle.std.specs.Prelude.{◌≡◌, true};
-ghost use Rattle.pmt_fates.specs.Savers.{saved_by};
-ghost use Rattle.pmt_fates.specs.Tallies.{AreSmall, else_first, else_saved, with_fate};
+ghost use Rattle.pmt_fates.specs.Fates.{saved_by};
+ghost use Rattle.pmt_fates.specs.Places.{AreSmall, else_first, else_saved, with_fate};
 
 use crate::fate::Fate;
 use crate::place_row::PlaceRow;

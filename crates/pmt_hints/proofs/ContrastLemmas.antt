@@ -1,12 +1,9 @@
 -- How often what is stored to while a flush is open is stored to with nothing open.
 use Rattle.std.proofs.Common.{◌≡◌, ℕ, suc, zero, ◌+◌, ◌<◌, ◌≤◌, Bool, true, false, List, [], ◌∷◌, length, take, get_or, Option, None, Some, refl, sym, ap, subst, ◌∙◌, arith}
 use Rattle.std.specs.Prelude.{◌==◌, ◌||◌, ◌&&◌, not, if◌then◌else◌, map, option_map, unwrap_or}
-use Rattle.std.specs.List.{list_any}
 use Rattle.std.proofs.lemmas.Bool.{eq-eqb, or_left, or_right}
 use Rattle.std.proofs.lemmas.List.Folds.{list_any_more}
-use Rattle.pmt_model.specs.declared.event.Event.{Event}
-use Rattle.pmt_model.specs.Machine.{Act, Stores, Flushes, Clflushes, Fences, Asserts}
-use Rattle.pmt_model.specs.Traces.{Recording, IsAct, act, event}
+use Rattle.pmt_laws.specs.Prelude.{Event, Act, Stores, Flushes, Clflushes, Fences, Asserts, Recording, IsAct, act, event, list_any}
 use Rattle.pmt_laws.proofs.Histories.{act-unique}
 use Rattle.pmt_explain.specs.Following.{IsFirst, past_of}
 use Rattle.pmt_hints.specs.declared.contrast.Contrast.{Contrast}

@@ -3,24 +3,16 @@ use Rattle.std.proofs.Common.{◌≡◌, ◌≢◌, ℕ, suc, ◌+◌, ◌-◌, 
 use Rattle.std.specs.Prelude.{◌↔◌, ◌==◌, ◌&&◌, ◌||◌, if◌then◌else◌, is_some, slice_get}
 use Rattle.std.proofs.lemmas.Bool.{and_parts, cases_lt, cases_eq, eq-eqb, eqb-true, ne_eqb, le-leb, lt-leb, lt-ltb, le-ltb, or_cases, or_left, or_right, false≢true}
 use Rattle.std.proofs.lemmas.Option.{none-some, same_Some}
-use Rattle.pmt_model.specs.declared.event.Event.{Event}
-use Rattle.pmt_model.specs.declared.event.Op.{Op}
-use Rattle.pmt_model.specs.declared.event.Op.TheVariants.{Store, Clwb, ClflushOpt, Clflush, Sfence, Mfence, IsPersist, IsOrderedBefore}
-use Rattle.pmt_model.specs.Values.{Layout, Written}
-use Rattle.pmt_model.specs.Machine.{Act, Stores, Flushes, Clflushes, Fences, Asserts}
-use Rattle.pmt_model.specs.Traces.{Recording, act, act_of, event}
+use Rattle.pmt_laws.specs.Prelude.{Event, Op, Store, Clwb, ClflushOpt, Clflush, Sfence, Mfence, IsPersist, IsOrderedBefore, Layout, Written, Act, Stores, Flushes, Clflushes, Fences, Asserts, Recording, act, act_of, event}
 use Rattle.pmt_laws.proofs.Histories.{act-unique, act-within}
-use Rattle.pmt_explain.specs.Following.{IsFirst, past_of}
-use Rattle.pmt_explain.specs.Saving.{AreSafePlaces, IsSafePlace}
-use Rattle.pmt_causes.specs.FailureKeys.{origin_of}
+use Rattle.pmt_explain.specs.Following.{IsFirst, past_of, AreSafePlaces, IsSafePlace}
+use Rattle.pmt_causes.specs.Groups.{origin_of}
 use Rattle.pmt_causes.specs.Late.{AreWaited, fences_between}
 use Rattle.pmt_hints.specs.declared.per_thread.PerThread.{PerThread}
-use Rattle.pmt_hints.specs.GoingOn.{IsRest, GoesFurther, event_line, is_behind, is_joined, is_lost_or_late, line_before, line_by, line_from, line_if, line_left}
+use Rattle.pmt_hints.specs.GoingOn.{IsRest, GoesFurther, event_line, is_behind, is_joined, is_lost_or_late, line_before, line_by, line_from, line_if, line_left, event_part, is_same_place, op_part, part}
 use Rattle.pmt_hints.specs.Hints.{GoesOn, IsLostOrLate, IsStoreBy}
-use Rattle.pmt_hints.specs.Judging.{store_line}
-use Rattle.pmt_hints.specs.Numbers.{LastFlushes, flush_at, of_thread}
-use Rattle.pmt_hints.specs.Splitting.{event_part, is_same_place, op_part, part}
-use Rattle.pmt_hints.specs.Stepping.{any_store_by}
+use Rattle.pmt_hints.specs.Claiming.{store_line}
+use Rattle.pmt_hints.specs.Numbers.{LastFlushes, flush_at, of_thread, any_store_by}
 use Rattle.pmt_hints.proofs.SplitLemmas.{place-told}
 use Rattle.pmt_hints.proofs.StepLemmas.{Decides, IsLast, last-none, last-step}
 use Rattle.pmt_hints.proofs.StoredAfterLemmas.{own-store, store-act}

@@ -4,10 +4,10 @@ pub mod FlagLemmas
 pub mod GoingLemmas
 pub mod LeftLemmas
 pub mod MarkingLemmas
+pub mod NamedByteLemmas
 pub mod NamingLemmas
 pub mod NumberLemmas
 pub mod OpenAtLemmas
-pub mod PartingLemmas
 pub mod PathLemmas
 pub mod PlaceLemmas
 pub mod ShortLemmas
@@ -16,3 +16,4 @@ pub mod SplitLemmas
 pub mod StepLemmas
 pub mod StoredAfterLemmas
 pub mod TellingLemmas
+pub mod WaitingLemmas

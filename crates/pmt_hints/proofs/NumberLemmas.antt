@@ -1,11 +1,11 @@
 -- Numbers of events that are told, as they are pushed.
-use Rattle.std.proofs.Common.{◌≡◌, ℕ, suc, ◌+◌, ◌<◌, ◌≤◌, ◌⊎◌, inl, inr, Bool, true, false, List, [], ◌∷◌, ◌++◌, refl, sym, subst, ◌∙◌, arith}
+use Rattle.std.proofs.Common.{◌≡◌, ℕ, suc, ◌+◌, ◌<◌, ◌≤◌, ◌⊎◌, inl, inr, Bool, true, false, List, [], ◌∷◌, ◌++◌, length, refl, sym, subst, ◌∙◌, arith}
 use Rattle.std.specs.Prelude.{◌↔◌}
 use Rattle.std.proofs.lemmas.Bool.{cases_eq, false≢true}
 use Rattle.std.proofs.lemmas.List.{append-nil}
 use Rattle.pmt_model.specs.Selections.{IsRising, Has}
 use Rattle.pmt_hints.specs.Hints.{AreThose}
-use Rattle.pmt_hints.specs.Judging.{AreUpTo, if_told}
+use Rattle.pmt_hints.specs.Claiming.{AreUpTo, if_told}
 
 pub has-push : (ks : List ℕ) (n i : ℕ) → Has (ks ++ n ∷ []) i ↔ (Has ks i ⊎ (n ≡ i))
 has-push [] n i = (λ h. elim h [ inl e ↦ inr e | inr none ↦ absurd none ], λ h. elim h [ inl none ↦ absurd none | inr e ↦ inl e ])
@@ -46,3 +46,8 @@ upto-more P n number false old new same made told x =
 -- after all events
 pub upto-those : (P : ℕ → Type 0) (n : ℕ) (numbers : List ℕ) → ((i : ℕ) → P i → i ≤ n) → AreUpTo P n numbers → AreThose P numbers
 upto-those P n numbers bound x = record { rising = x.0; just = λ i. (λ h. ((x.1 i).0 h).1, λ p. (x.1 i).1 (bound i p, p)) }
+
+-- none of those that have the property
+pub none-those : (P Q : ℕ → Type 0) (numbers : List ℕ) → AreThose P numbers → length numbers ≡ 0 → ((i : ℕ) → Q i → P i) → AreThose Q numbers
+none-those P Q [] those none tells = record { rising = tt; just = λ i. (λ h. absurd h, λ q. (those.just i).1 (tells i q)) }
+none-those P Q (k ∷ ks) those none tells = absurd (omega (arith, none))

@@ -1,23 +1,15 @@
 -- Flushes that are open at a store to another line.
 use Rattle.std.proofs.Common.{◌≡◌, ◌≢◌, ℕ, suc, ◌<◌, ◌≤◌, ◌⊎◌, inl, inr, Bool, true, false, List, [], ◌∷◌, length, Some, refl, sym, ap, subst, ◌∙◌, arith}
 use Rattle.std.specs.Prelude.{◌↔◌, nat_lt}
-use Rattle.std.specs.List.{filter}
 use Rattle.std.proofs.lemmas.Bool.{cases_lt, cases_eq, eq-eqb, ne_eqb, lt-ltb, le-ltb, false≢true}
-use Rattle.pmt_model.specs.declared.event.Event.{Event}
-use Rattle.pmt_model.specs.declared.event.Op.{Op}
-use Rattle.pmt_model.specs.declared.event.Op.TheVariants.{Store, Clwb, ClflushOpt, Clflush, Sfence, Mfence, IsPersist, IsOrderedBefore}
-use Rattle.pmt_model.specs.Values.{Layout}
-use Rattle.pmt_model.specs.Machine.{Act, Stores, Flushes, Clflushes, Fences, Asserts}
-use Rattle.pmt_model.specs.Traces.{Recording, IsAct, act, act_of, event}
-use Rattle.pmt_model.specs.Selections.{IsRising, Has}
+use Rattle.pmt_laws.specs.Prelude.{Event, Op, Store, Clwb, ClflushOpt, Clflush, Sfence, Mfence, IsPersist, IsOrderedBefore, Layout, Act, Stores, Flushes, Clflushes, Fences, Asserts, Recording, IsAct, act, act_of, event, IsRising, Has, filter}
 use Rattle.pmt_laws.proofs.Histories.{act-unique, act-within}
 use Rattle.pmt_explain.specs.Following.{IsFirst, past_of}
 use Rattle.pmt_explain.proofs.FirstLemmas.{first-none}
 use Rattle.pmt_hints.specs.declared.next_stores.NextStores.{NextStores}
 use Rattle.pmt_hints.specs.declared.per_thread.PerThread.{PerThread}
 use Rattle.pmt_hints.specs.Hints.{FencesBetween, IsOpenFlush, IsStoreBy}
-use Rattle.pmt_hints.specs.Numbers.{elsewhere_at, of_thread}
-use Rattle.pmt_hints.specs.Stepping.{open_so, store_by}
+use Rattle.pmt_hints.specs.Numbers.{elsewhere_at, of_thread, open_so, store_by}
 use Rattle.pmt_hints.proofs.StepLemmas.{Decides, next-step}
 use Rattle.pmt_hints.proofs.StoredAfterLemmas.{FencesFrom, own-store, store-act}
 

@@ -1,21 +1,17 @@
 -- Flushes that are told of a call path alone.
-use Rattle.std.proofs.Common.{◌≡◌, ℕ, Bool, true, false, List, [], ◌∷◌, length, Option, None, Some, refl, sym, ap, subst, ◌∙◌, arith}
+use Rattle.std.proofs.Common.{◌≡◌, ℕ, Bool, true, false, List, [], Option, None, Some, refl, sym, ap, subst, ◌∙◌}
 use Rattle.std.specs.Prelude.{nat_eq}
-use Rattle.std.specs.Option.{option_eq}
 use Rattle.std.specs.Bool.{Decides}
-use Rattle.std.specs.List.{filter, list_any}
 use Rattle.std.proofs.lemmas.Bool.{eq-eqb, eqb-true, false≢true}
 use Rattle.std.proofs.lemmas.Option.{none-some, same_Some}
-use Rattle.pmt_model.specs.Machine.{Flushes}
-use Rattle.pmt_model.specs.Traces.{Recording, event}
-use Rattle.pmt_model.specs.Selections.{Has}
+use Rattle.pmt_laws.specs.Prelude.{Flushes, Recording, event, Has, option_eq, filter, list_any}
 use Rattle.pmt_laws.proofs.Histories.{act-unique}
 use Rattle.pmt_causes.specs.declared.failure_keys.Origin.{Origin}
-use Rattle.pmt_causes.specs.FailureKeys.{origin_of}
+use Rattle.pmt_causes.specs.Groups.{origin_of}
 use Rattle.pmt_causes.proofs.ExactFailures.{origin-exact}
 use Rattle.pmt_hints.specs.declared.places.Places.{Places}
 use Rattle.pmt_hints.specs.Hints.{AreThose, IsOpenFlush, IsOpenThroughout, IsToldOnPath, IsToldOpen}
-use Rattle.pmt_hints.specs.Telling.{AreClosed, is_closed, is_place, place_of, told_so}
+use Rattle.pmt_hints.specs.Contrasts.{AreClosed, is_closed, is_place, place_of, told_so}
 use Rattle.pmt_hints.proofs.OpenAtLemmas.{filter-has, filter-rising}
 use Rattle.pmt_hints.proofs.SplitLemmas.{origin-same}
 use Rattle.pmt_hints.proofs.TellingLemmas.{any-has, any-none, flush-place, not-true-false, place-flush}
@@ -30,10 +26,6 @@ option-decides (Some x) (Some y) = (λ e. ap Some (eqb-true x y e), λ e. eq-eqb
 -- no path alone, if each path is a place
 pub none-same : (T : Recording) (labels paths : List (Option ℕ)) (told : List ℕ) → labels ≡ paths → told ≡ [] → AreThose (IsToldOnPath T labels paths) told
 none-same T labels paths told same is = rw is (record { rising = tt; just = λ i. (λ h. absurd h, λ h. absurd (h.1 (subst (λ ls. IsOpenThroughout T ls i) (sym same) (h.0).throughout))) })
-
-pub none-told : (T : Recording) (labels paths : List (Option ℕ)) (told : List ℕ) → AreThose (IsToldOpen T paths) told → length told ≡ 0 → AreThose (IsToldOnPath T labels paths) told
-none-told T labels paths [] those none = record { rising = tt; just = λ i. (λ h. absurd h, λ h. (those.just i).1 h.0) }
-none-told T labels paths (k ∷ ks) those none = absurd (omega (arith, none))
 
 module _ (T : Recording) (labels paths : List (Option ℕ)) (told whole : List ℕ) (closed : Places) (those : AreThose (IsToldOpen T paths) told) (all : AreThose (IsOpenThroughout T labels) whole) (c : AreClosed T labels whole closed) where
   abbrev closes : Origin → ℕ → Bool

@@ -7,7 +7,7 @@ use Rattle.std.proofs.lemmas.List.{get_or-replicate, get_or_past, length-replica
 use Rattle.pmt_causes.specs.declared.failure_keys.Origin.{Origin}
 use Rattle.pmt_causes.specs.declared.failure_keys.Origin.TheVariants.{Label, Thread}
 use Rattle.pmt_hints.specs.declared.places.Places.{Places}
-use Rattle.pmt_hints.specs.Telling.{has_place}
+use Rattle.pmt_hints.specs.Contrasts.{has_place}
 
 -- no place yet
 none-told : (n k : ℕ) (d : Bool) → d ≡ false → get_or (replicate n false) k d ≡ false

@@ -3,13 +3,12 @@ use Rattle.std.proofs.Common.{◌≡◌, ◌≢◌, ℕ, zero, suc, ◌<◌, ◌
 use Rattle.std.specs.Prelude.{◌↔◌, ◌==◌, ◌&&◌, if◌then◌else◌, nat_lt, nat_le, slice_get}
 use Rattle.std.proofs.lemmas.Bool.{cases_eq, cases_lt, cond_both, eq-eqb, ne_eqb, lt-ltb, le-ltb, le-leb, lt-leb, false≢true}
 use Rattle.std.proofs.lemmas.Option.{slice_get-get_or}
-use Rattle.pmt_model.specs.Machine.{Act, Stores, Flushes, Clflushes, Fences, Asserts}
-use Rattle.pmt_model.specs.Traces.{Recording, IsAct}
+use Rattle.pmt_laws.specs.Prelude.{Act, Stores, Flushes, Clflushes, Fences, Asserts, Recording, IsAct}
 use Rattle.pmt_laws.proofs.Histories.{act-unique, act-within}
-use Rattle.pmt_explain.specs.Saving.{AreSafePlaces}
+use Rattle.pmt_explain.specs.Following.{AreSafePlaces}
 use Rattle.pmt_causes.specs.Late.{AreWaited}
 use Rattle.pmt_hints.specs.declared.per_thread.PerThread.{PerThread}
-use Rattle.pmt_hints.specs.GoingOn.{IsRest, GoesFurther, is_line_short, is_lost_or_late, last_by, line_by, line_if, short_so}
+use Rattle.pmt_hints.specs.GoingOn.{IsRest, GoesFurther, is_lost_or_late, last_by, line_by, line_if, short_so}
 use Rattle.pmt_hints.specs.Hints.{AreThose, FencesBetween, GoesOn, IsLostOrLate, IsOneLineShort, IsStoreBy}
 use Rattle.pmt_hints.specs.Numbers.{LastFlushes, flush_at, of_thread}
 use Rattle.pmt_hints.proofs.GoingLemmas.{LinesUpTo, late-told}
@@ -112,16 +111,6 @@ short-told T labels n fences rests further b u (Flushes t l) is small by tells f
           still_open = open_still x below;
           ends = λ k on before. upto k on before (cases_lt z k);
         }
-
--- by the last store of the thread that goes on from any line
-pub short-by : (fences lasts : PerThread) (rests further : LastFlushes) (t l : ℕ) → flush_at rests t l ≤ of_thread lasts t →
-    (nat_lt (of_thread fences t) (of_thread lasts t) && is_line_short fences rests further t l) ≡ is_line_short fences rests further t l
-short-by fences lasts rests further t l upto = go (cases_lt (of_thread fences t) (of_thread lasts t))
-  where
-    go : (of_thread fences t < of_thread lasts t) ⊎ (of_thread lasts t ≤ of_thread fences t) →
-        (nat_lt (of_thread fences t) (of_thread lasts t) && is_line_short fences rests further t l) ≡ is_line_short fences rests further t l
-    go (inl below) = rw (lt-ltb (of_thread fences t) (of_thread lasts t) below) refl
-    go (inr past) = rw (le-ltb (of_thread fences t) (of_thread lasts t) past, le-ltb (of_thread fences t) (flush_at rests t l) (omega (arith, upto, past))) refl
 
 -- what goes on and is missed comes no later than the last one of the thread that goes on
 pub lasts-up : (Q : ℕ → ℕ → ℕ → Type 0) (n number u : ℕ) (missed : Bool) (line : Option ℕ) (rests new : LastFlushes) (lasts more : PerThread) → number ≡ suc n → LinesUpTo Q n rests →

@@ -1,25 +1,20 @@
 -- Words that two stores split.
 use Rattle.std.proofs.Common.{◌≡◌, ◌≢◌, ℕ, zero, suc, ◌+◌, ◌-◌, ◌%◌, ◌^◌, ◌<◌, ◌≤◌, ◌⊎◌, inl, inr, Bool, true, false, List, [], ◌∷◌, length, Option, None, Some, refl, sym, ap, subst, ◌∙◌, arith}
 use Rattle.std.specs.Prelude.{◌↔◌, ◌==◌, ◌&&◌, ◌||◌, nat_le, slice_get}
-use Rattle.std.specs.List.{AllByRecursion}
 use Rattle.std.proofs.lemmas.Bool.{and_parts, cases_lt, cases_eq, eq-eqb, eqb-true, ne_eqb, le-leb, leb-true, lt-ltb, or_left, or_right, false≢true}
 use Rattle.std.proofs.lemmas.Option.{none-some, same_Some}
-use Rattle.pmt_model.specs.declared.event.Event.{Event}
-use Rattle.pmt_model.specs.declared.event.Op.{Op}
-use Rattle.pmt_model.specs.declared.event.Op.TheVariants.{Store, Clwb, ClflushOpt, Clflush, Sfence, Mfence, IsPersist, IsOrderedBefore}
-use Rattle.pmt_model.specs.Values.{IsStore, Layout, Written}
-use Rattle.pmt_model.specs.Traces.{IsEventIn, IsOp, IsTrace, Recording, event}
+use Rattle.pmt_laws.specs.Prelude.{Event, Op, Store, Clwb, ClflushOpt, Clflush, Sfence, Mfence, IsPersist, IsOrderedBefore, IsStore, Layout, Written, IsEventIn, IsOp, IsTrace, Recording, event, AllByRecursion}
 use Rattle.pmt_laws.proofs.Histories.{event-within}
 use Rattle.pmt_causes.specs.declared.failure_keys.Origin.{Origin}
 use Rattle.pmt_causes.specs.declared.failure_keys.Origin.TheVariants.{Label, Thread}
 use Rattle.pmt_causes.specs.contracts.failure_keys.OriginPartialEq.TheImpl as origin_eq
-use Rattle.pmt_causes.specs.FailureKeys.{origin_of}
+use Rattle.pmt_causes.specs.Groups.{origin_of}
 use Rattle.pmt_causes.proofs.ExactFailures.{origin-exact}
 use Rattle.pmt_hints.specs.declared.per_thread.PerThread.{PerThread}
 use Rattle.pmt_hints.specs.declared.split_word.Part.{Part}
 use Rattle.pmt_hints.specs.Hints.{IsSplitWord, IsStoreOf, Joins}
 use Rattle.pmt_hints.specs.Numbers.{of_thread}
-use Rattle.pmt_hints.specs.Splitting.{begins_or_ends, event_part, is_same_place, joins, may_join, op_part, part, split_parts, split_so, store_of_thread}
+use Rattle.pmt_hints.specs.GoingOn.{begins_or_ends, event_part, is_same_place, joins, may_join, op_part, part, split_parts, split_so, store_of_thread}
 use Rattle.pmt_hints.proofs.StepLemmas.{Decides, IsLast, last-none, last-step}
 
 -- event k is a store by thread t
@@ -28,9 +23,6 @@ Stored T t k = (w : Written) × IsStoreOf T t w k
 
 abbrev pub StoresUpTo : Recording → ℕ → PerThread → Type 0
 StoresUpTo T n stores = (t : ℕ) → t < 256 → IsLast (Stored T t) n (of_thread stores t)
-
-by : ℕ → Op → Event
-by t o = record { thread = t; op = o }
 
 -- whether an event is one
 stored-decides : (T : Recording) (n number t x u : ℕ) (o : Op) → number ≡ suc n → event T (suc n) ≡ Some (record { thread = u; op = o }) → Decides (Stored T t) (suc n) x (store_of_thread o u number t x)

@@ -2,14 +2,11 @@
 use Rattle.std.proofs.Common.{◌≡◌, ◌≢◌, ℕ, suc, ◌<◌, ◌≤◌, ◌⊎◌, inl, inr, refl, ap, subst, ◌∙◌, arith}
 use Rattle.std.specs.Prelude.{if◌then◌else◌}
 use Rattle.std.proofs.lemmas.Bool.{cases_lt, cases_eq, eq-eqb, ne_eqb}
-use Rattle.pmt_model.specs.Machine.{Act, Stores, Flushes, Clflushes, Fences, Asserts}
-use Rattle.pmt_model.specs.Traces.{Recording, IsAct}
-use Rattle.pmt_model.specs.Findings.{IsFlushOf, ByFlush, ByClflush}
+use Rattle.pmt_laws.specs.Prelude.{Act, Stores, Flushes, Clflushes, Fences, Asserts, Recording, IsAct}
 use Rattle.pmt_laws.proofs.Histories.{act-unique}
 use Rattle.pmt_explain.specs.Following.{IsFirst}
-use Rattle.pmt_causes.specs.Flushing.{next_before}
 use Rattle.pmt_explain.proofs.FirstLemmas.{first-here, first-over}
-use Rattle.pmt_hints.specs.Stepping.{fence_by, flush_by}
+use Rattle.pmt_hints.specs.Numbers.{fence_by, flush_by}
 
 -- the last number up to n that has the property, or 0 where none has it
 pub record IsLast (P : ℕ → Type 0) (n last : ℕ) : Type 0 where
@@ -59,21 +56,3 @@ flush-decides T n number t l x (Flushes u k) same is = go (cases_eq u t) (cases_
     go (inl e) (inl f) = inl (subst (λ m. IsAct T (suc n) (Flushes t m)) f (subst (λ v. IsAct T (suc n) (Flushes v k)) e is), rw (eq-eqb u t e, eq-eqb k l f) same)
     go (inl e) (inr apart) = inr (λ f. let both = act-unique T (suc n) (Flushes u k) (Flushes t l) is f in apart (cc), rw (eq-eqb u t e, ne_eqb k l apart) refl)
     go (inr apart) either = inr (λ f. let both = act-unique T (suc n) (Flushes u k) (Flushes t l) is f in apart (cc), rw (ne_eqb u t apart) refl)
-
--- those of a line by any thread
-pub no-flush : (T : Recording) (i l : ℕ) (a : Act) → IsAct T i a → ((t : ℕ) → a ≢ Flushes t l) → a ≢ Clflushes l → ¬ IsFlushOf T l i
-no-flush T i l a is no_flush no_clflush (ByFlush t flush) = no_flush t (act-unique T i a (Flushes t l) is flush)
-no-flush T i l a is no_flush no_clflush (ByClflush flush) = no_clflush (act-unique T i a (Clflushes l) is flush)
-
-pub line-decides : (T : Recording) (n number l x : ℕ) (a : Act) → number ≡ suc n → IsAct T (suc n) a → Decides (IsFlushOf T l) (suc n) x (next_before a number l x)
-line-decides T n number l x (Stores k w) same is = inr (no-flush T (suc n) l (Stores k w) is (λ t e. cc) (λ e. cc), refl)
-line-decides T n number l x (Fences u) same is = inr (no-flush T (suc n) l (Fences u) is (λ t e. cc) (λ e. cc), refl)
-line-decides T n number l x Asserts same is = inr (no-flush T (suc n) l Asserts is (λ t e. cc) (λ e. cc), refl)
-line-decides T n number l x (Flushes u k) same is = elim (cases_eq k l) [
-  | inl e ↦ inl (ByFlush u (subst (λ m. IsAct T (suc n) (Flushes u m)) e is), ap (λ b. if b then number else x) (eq-eqb k l e) ∙ same)
-  | inr apart ↦ inr (no-flush T (suc n) l (Flushes u k) is (λ t e. apart (cc)) (λ e. cc), ap (λ b. if b then number else x) (ne_eqb k l apart))
-]
-line-decides T n number l x (Clflushes k) same is = elim (cases_eq k l) [
-  | inl e ↦ inl (ByClflush (subst (λ m. IsAct T (suc n) (Clflushes m)) e is), ap (λ b. if b then number else x) (eq-eqb k l e) ∙ same)
-  | inr apart ↦ inr (no-flush T (suc n) l (Clflushes k) is (λ t e. cc) (λ e. apart (cc)), ap (λ b. if b then number else x) (ne_eqb k l apart))
-]

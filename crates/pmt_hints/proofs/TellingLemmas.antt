@@ -1,22 +1,14 @@
 -- Of which places flushes are told as open at a store.
 use Rattle.std.proofs.Common.{◌≡◌, ℕ, ◌⊎◌, inl, inr, Bool, true, false, List, [], ◌∷◌, Option, None, Some, refl, sym, ap, ◌∙◌}
 use Rattle.std.specs.Prelude.{◌||◌, not}
-use Rattle.std.specs.List.{filter, list_any}
 use Rattle.std.proofs.lemmas.Bool.{false≢true}
 use Rattle.std.proofs.lemmas.Option.{none-some, same_Some}
-use Rattle.pmt_model.specs.declared.event.Event.{Event}
-use Rattle.pmt_model.specs.declared.event.Op.{Op}
-use Rattle.pmt_model.specs.declared.event.Op.TheVariants.{Store, Clwb, ClflushOpt, Clflush, Sfence, Mfence, IsPersist, IsOrderedBefore}
-use Rattle.pmt_model.specs.Values.{Layout, line_of}
-use Rattle.pmt_model.specs.Machine.{Flushes}
-use Rattle.pmt_model.specs.Traces.{Recording, IsAct, act_of, event}
-use Rattle.pmt_model.specs.Selections.{IsRising, Has}
-use Rattle.pmt_model.specs.Keeping.{IsKeep}
+use Rattle.pmt_laws.specs.Prelude.{Event, Op, Store, Clwb, ClflushOpt, Clflush, Sfence, Mfence, IsPersist, IsOrderedBefore, Layout, line_of, Flushes, Recording, IsAct, act_of, event, IsRising, Has, IsKeep, filter, list_any}
 use Rattle.pmt_causes.specs.declared.failure_keys.Origin.{Origin}
-use Rattle.pmt_causes.specs.FailureKeys.{origin_of}
+use Rattle.pmt_causes.specs.Groups.{origin_of}
 use Rattle.pmt_hints.specs.Hints.{AreThose, IsOpenFlush, IsOpenThroughout}
 use Rattle.pmt_hints.specs.declared.places.Places.{Places}
-use Rattle.pmt_hints.specs.Telling.{has_place, is_closed, op_place, place_of, told_so}
+use Rattle.pmt_hints.specs.Contrasts.{has_place, is_closed, op_place, place_of, told_so}
 use Rattle.pmt_hints.proofs.OpenAtLemmas.{filter-has, filter-rising}
 
 -- a test that some number of a list passes
@@ -77,7 +69,7 @@ pub not-true-false : (b : Bool) → not b ≡ true → b ≡ false
 not-true-false true e = sym e
 not-true-false false e = refl
 
-not-true : (b : Bool) → (b ≡ true → ⊥) → b ≡ false
+pub not-true : (b : Bool) → (b ≡ true → ⊥) → b ≡ false
 not-true true off = absurd (off refl)
 not-true false off = refl
 

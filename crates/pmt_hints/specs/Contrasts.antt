@@ -1,23 +1,23 @@
 -- How often what is stored to while a flush is open is stored to with nothing open.
 use Rattle.std.specs.Prelude.{◌≡◌, ◌≢◌, ℕ, suc, zero, ◌+◌, ◌-◌, ◌^◌, ◌<◌, ◌==◌, ◌&&◌, ◌||◌, Bool, true, false, not, if◌then◌else◌, nat_eq, List, length, map, Option, None, Some, unwrap_or, slice_get, slice_index_or}
-use Rattle.std.specs.List.{list_any}
 use Rattle.std.specs.declared.hash.FoldHasher.{FoldHasher}
 use Rattle.std.specs.declared.hash.BuildHasherDefault.{BuildHasherDefault}
 use Rattle.std.specs.HashMap.{HashMap, get}
-use Rattle.pmt_model.specs.declared.event.Event.{Event}
-use Rattle.pmt_model.specs.declared.event.Op.{Op}
-use Rattle.pmt_model.specs.declared.event.Op.TheVariants.{Store}
-use Rattle.pmt_model.specs.Values.{Layout}
-use Rattle.pmt_model.specs.Machine.{Act, Stores, Flushes, Clflushes, Fences, Asserts}
-use Rattle.pmt_model.specs.Traces.{Recording, IsAct, act, event}
+use Rattle.pmt_laws.specs.Prelude.{Event, Op, Store, Layout, Act, Stores, Flushes, Clflushes, Fences, Asserts, Recording, IsAct, act, event, list_any, Clwb, ClflushOpt, Clflush, Sfence, Mfence, IsPersist, IsOrderedBefore}
 use Rattle.pmt_explain.specs.Following.{IsFirst, past_of}
+use Rattle.pmt_causes.specs.declared.failure_keys.Origin.{Origin}
+use Rattle.pmt_causes.specs.declared.failure_keys.Origin.TheVariants.{Label, Thread}
+use Rattle.pmt_causes.specs.Groups.{origin_of}
 use Rattle.pmt_hints.specs.declared.contrast.Contrast.{Contrast}
 use Rattle.pmt_hints.specs.declared.hint.Hint.{Hint}
 use Rattle.pmt_hints.specs.declared.hint.HintKind.{HintKind}
 use Rattle.pmt_hints.specs.declared.hint.HintKind.TheVariants.{OpenAtStore}
 use Rattle.pmt_hints.specs.declared.next_stores.NextStores.{NextStores}
+use Rattle.pmt_hints.specs.declared.per_thread.PerThread.{PerThread}
 use Rattle.pmt_hints.specs.Hints.{IsStoreBy}
-use Rattle.pmt_hints.specs.Numbers.{elsewhere_at}
+use Rattle.pmt_hints.specs.Numbers.{elsewhere_at, of_thread}
+use Rattle.pmt_hints.specs.declared.places.Places.{Places}
+use Rattle.pmt_causes.specs.contracts.failure_keys.OriginPartialEq.TheImpl as origin_eq
 
 -- Event j is a store by thread t after event i, to another line than l.
 abbrev pub IsStoreElsewhere : Recording → ℕ → ℕ → ℕ → ℕ → Type 0
@@ -56,6 +56,10 @@ clear_over f (Some e) t was = clear_by (act f e) t was
 abbrev pub is_clear : Recording → ℕ → ℕ → Bool
 is_clear T t zero = true
 is_clear T t (suc n) = clear_over T.format (event T (suc n)) t (is_clear T t n)
+
+-- Each store comes when its thread is clear.
+abbrev pub StoresWhenClear : Recording → Type 0
+StoresWhenClear T = (i t l : ℕ) → IsStoreBy T t l (suc i) → is_clear T t i ≡ true
 
 -- No store, and one more, if it is one to the address; it may be clear.
 abbrev pub nothing : Contrast
@@ -110,6 +114,14 @@ open_by (Clflushes l) t old = old
 open_by (Fences u) t old = if u == t then 0 else old
 open_by Asserts t old = old
 
+-- By these flags, the act by thread t is a store, and the thread is not clear.
+abbrev pub stores_open : PerThread → ℕ → Act → Bool
+stores_open waiting t (Stores l w) = not (of_thread waiting t == 0)
+stores_open waiting t (Flushes u l) = false
+stores_open waiting t (Clflushes l) = false
+stores_open waiting t (Fences u) = false
+stores_open waiting t Asserts = false
+
 -- Counts by address.
 abbrev pub Counts : Type 0
 Counts = HashMap ℕ Contrast (BuildHasherDefault FoldHasher)
@@ -140,3 +152,45 @@ counted_if counts (Some a) = unwrap_or (count_at counts a) nothing
 
 abbrev pub contrast_by : Recording → List ℕ → Counts → Hint → Contrast
 contrast_by T nexts counts h = counted_if counts (address_in T nexts h)
+
+-- ---- Of which places flushes are told as open at a store
+
+-- The label is one of these places.
+abbrev pub has_label : Places → ℕ → Bool
+has_label places l = slice_index_or places.labels.items l (unwrap_or (get nat_eq places.rest l) false)
+
+-- The place is one of these.
+abbrev pub has_place : Places → Origin → Bool
+has_place places (Label l) = has_label places l
+has_place places (Thread t) = slice_index_or places.threads t false
+
+-- The place of the event at i, if it is a flush that waits for a fence.
+abbrev pub op_place : List (Option ℕ) → ℕ → ℕ → Op → Option Origin
+op_place labels i t (Store w) = None
+op_place labels i t (Clwb a) = Some (origin_of labels i t)
+op_place labels i t (ClflushOpt a) = Some (origin_of labels i t)
+op_place labels i t (Clflush a) = None
+op_place labels i t Sfence = None
+op_place labels i t Mfence = None
+op_place labels i t (IsPersist r) = None
+op_place labels i t (IsOrderedBefore r q) = None
+
+abbrev pub place_of : List (Option ℕ) → ℕ → Option Event → Option Origin
+place_of labels i None = None
+place_of labels i (Some e) = op_place labels i e.thread e.op
+
+abbrev pub is_place : Origin → Option Origin → Bool
+is_place p None = false
+is_place p (Some q) = (origin_eq.ghosts).eq q p
+
+-- These are the places of the flushes with these numbers.
+abbrev pub AreClosed : Recording → List (Option ℕ) → List ℕ → Places → Type 0
+AreClosed T labels numbers closed = (p : Origin) → has_place closed p ≡ list_any (λ (i : ℕ). is_place p (place_of labels i (event T i))) numbers
+
+abbrev pub is_closed : Places → Option Origin → Bool
+is_closed closed None = false
+is_closed closed (Some p) = has_place closed p
+
+-- The place of the event at i is not closed.
+abbrev pub told_so : Recording → List (Option ℕ) → Places → ℕ → Bool
+told_so T labels closed i = not (is_closed closed (place_of labels i (event T i)))

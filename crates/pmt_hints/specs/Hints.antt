@@ -1,20 +1,24 @@
--- What hints are told of: each kind is a set of events.
-use Rattle.std.specs.Prelude.{◌≡◌, ◌≢◌, ◌↔◌, ◌⊎◌, ℕ, suc, ◌+◌, ◌-◌, ◌%◌, ◌<◌, ◌≤◌, Bool, List, length, Option, Some}
-use Rattle.pmt_model.specs.declared.event.Event.{Event}
-use Rattle.pmt_model.specs.declared.event.Op.TheVariants.{IsOrderedBefore, IsPersist, Store}
-use Rattle.pmt_model.specs.Values.{Layout, Span, Written, line_of}
-use Rattle.pmt_model.specs.Machine.{Stores, Flushes, Fences}
-use Rattle.pmt_model.specs.Assertions.{InSpan, OrderedPasses, PersistPasses}
-use Rattle.pmt_model.specs.Traces.{Recording, IsAct, act, event, history}
-use Rattle.pmt_model.specs.Findings.{IsFlushOf, last_store_number}
-use Rattle.pmt_model.specs.Keeping.{IsKept}
-use Rattle.pmt_model.specs.Selections.{IsRising, Has}
-use Rattle.pmt_explain.specs.Saving.{IsSafePlace}
-use Rattle.pmt_causes.specs.FailureKeys.{origin_of}
+-- What hints are told of: each kind is a set of events, and each hint has its place.
+use Rattle.std.specs.Prelude.{◌≡◌, ◌↔◌, ℕ, suc, Bool, true, List, length, slice_get, Some, ◌≢◌, ◌⊎◌, ◌+◌, ◌%◌, ◌<◌, ◌≤◌, Option, nat_le, filter, map, None}
+use Rattle.pmt_laws.specs.Prelude.{Event, IsOrderedBefore, IsPersist, Store, Layout, Span, Written, Stores, Flushes, Fences, InSpan, OrderedPasses, PersistPasses, Recording, IsAct, act, event, history, IsFlushOf, last_store_number, IsKept, IsRising, Has}
+use Rattle.pmt_explain.specs.Following.{IsSafePlace}
+use Rattle.pmt_causes.specs.Groups.{origin_of, AreGrouped, first_in}
 use Rattle.pmt_causes.specs.Late.{fences_between}
+use Rattle.pmt_causes.specs.declared.failure_keys.Origin.{Origin}
+use Rattle.pmt_causes.specs.declared.failure_keys.Origin.TheVariants.{Label, Thread}
+use Rattle.pmt_causes.specs.declared.grouping.Group.{Group}
+use Rattle.pmt_causes.specs.declared.grouping.Keyed.{Keyed}
 use Rattle.pmt_hints.specs.declared.named.Role.{Role}
 use Rattle.pmt_hints.specs.declared.named.Role.TheVariants.{Claimed, First, Second}
-use Rattle.pmt_hints.specs.Flagging.{AreFlags}
+use Rattle.pmt_hints.specs.declared.hint.Hint.{Hint}
+use Rattle.pmt_hints.specs.declared.hint.HintKind.{HintKind}
+
+-- Of each of the first n events whether it has the property, the first one being event 1.
+pub record AreFlags (P : ℕ → Type 0) (n : ℕ) (flags : List Bool) : Type 0 where
+  pub size : length flags ≡ n
+  pub each : (k : ℕ) (b : Bool) → slice_get flags k ≡ Some b → (b ≡ true) ↔ P (suc k)
+
+-- ---- What hints are told of: each kind is a set of events
 
 -- These are the events that have the property, in their order.
 pub record AreThose (P : ℕ → Type 0) (numbers : List ℕ) : Type 0 where
@@ -65,10 +69,6 @@ pub record IsOpenThroughout (T : Recording) (labels : List (Option ℕ)) (i : �
   pub is_open : IsOpenAtStore T i
   pub all : (j t l : ℕ) → IsKept T j → IsAct T j (Flushes t l) → origin_of labels j t ≡ origin_of labels i (is_open.1).thread → IsOpenFlush T j
 
--- Range A has a byte of line l, between its first and its last one.
-abbrev pub HasLine : Layout → Span → ℕ → Type 0
-HasLine f A l = (line_of f A.addr ≤ l) × (l ≤ line_of f (A.addr + A.len - 1))
-
 -- Event i is an isOrderedBefore of these ranges, and passes.
 pub record PassesOrdered (T : Recording) (A B : Span) (i : ℕ) : Type 0 where
   pub assertion : Event
@@ -81,14 +81,39 @@ pub data ClaimsRange (T : Recording) (A : Span) (i : ℕ) : Type 0 where
   ByPersist : (e : Event) → event T i ≡ Some e → e.op ≡ IsPersist A → PersistPasses (history T i) A → ClaimsRange T A i
   ByOrdered : (B : Span) → PassesOrdered T A B i → ClaimsRange T A i
 
--- Some assertion of the trace claims a byte of the line.
-abbrev pub IsClaimed : Recording → ℕ → Type 0
-IsClaimed T l = (i : ℕ) × (A : Span) × ClaimsRange T A i × HasLine T.format A l
+-- Event i passes, and A is its range of this role.
+abbrev pub Names : Recording → Role → Span → ℕ → Type 0
+Names T Claimed A i = ClaimsRange T A i
+Names T First A i = (B : Span) × PassesOrdered T A B i
+Names T Second B i = (A : Span) × PassesOrdered T A B i
 
--- Open at a store, as it is told: only where no kept flush of the place is of a line that is claimed.
+-- Store i is the last one to a byte of a range of this role, as of its assertion.
+pub record IsNamed (T : Recording) (role : Role) (i : ℕ) : Type 0 where
+  pub range : Span
+  pub assertion : ℕ
+  pub byte : ℕ
+  pub names : Names T role range assertion
+  pub inside : InSpan range byte
+  pub last : last_store_number byte (history T assertion) ≡ Some i
+
+-- Of each event, in order, whether it is a store that is claimed.
+abbrev pub AreClaimedStores : Recording → List Bool → Type 0
+AreClaimedStores T flags = AreFlags (IsNamed T Claimed) (length T.events) flags
+
+-- Flush j of line l is excused: a store to the line is claimed, and no kept flush of the line comes between that store and j, so that it is
+-- this flush that saves it.
+pub record IsExcused (T : Recording) (l j : ℕ) : Type 0 where
+  pub store : ℕ
+  pub thread : ℕ
+  pub is_store : IsStoreBy T thread l store
+  pub earlier : store < j
+  pub not_flushed : (k : ℕ) → store < k → k < j → IsKept T k → ¬ IsFlushOf T l k
+  pub claimed : IsNamed T Claimed store
+
+-- Open at a store, as it is told: only where no kept flush of the place is excused.
 pub record IsToldOpen (T : Recording) (labels : List (Option ℕ)) (i : ℕ) : Type 0 where
   pub throughout : IsOpenThroughout T labels i
-  pub unclaimed : (j t l : ℕ) → IsKept T j → IsAct T j (Flushes t l) → origin_of labels j t ≡ origin_of labels i (throughout.is_open.1).thread → ¬ IsClaimed T l
+  pub unexcused : (j t l : ℕ) → IsKept T j → IsAct T j (Flushes t l) → origin_of labels j t ≡ origin_of labels i (throughout.is_open.1).thread → ¬ IsExcused T l j
 
 -- Open at a store, as it is told of a call path alone: so is each kept flush of the path, but not each one of the place. Paths are numbers
 -- of whole labels, in the form of `labels`.
@@ -147,25 +172,6 @@ pub record IsOneLineShort (T : Recording) (labels : List (Option ℕ)) (i : ℕ)
   pub still_open : ¬ FencesBetween T thread rest i
   pub ends : (k : ℕ) → GoesOn T labels thread (suc line) k → k < i → FencesBetween T thread k i
 
--- Event i passes, and A is its range of this role.
-abbrev pub Names : Recording → Role → Span → ℕ → Type 0
-Names T Claimed A i = ClaimsRange T A i
-Names T First A i = (B : Span) × PassesOrdered T A B i
-Names T Second B i = (A : Span) × PassesOrdered T A B i
-
--- Store i is the last one to a byte of a range of this role, as of its assertion.
-pub record IsNamed (T : Recording) (role : Role) (i : ℕ) : Type 0 where
-  pub range : Span
-  pub assertion : ℕ
-  pub byte : ℕ
-  pub names : Names T role range assertion
-  pub inside : InSpan range byte
-  pub last : last_store_number byte (history T assertion) ≡ Some i
-
--- Of each event, in order, whether it is a store that is claimed.
-abbrev pub AreClaimedStores : Recording → List Bool → Type 0
-AreClaimedStores T flags = AreFlags (IsNamed T Claimed) (length T.events) flags
-
 -- Stored after a mark, which is the last store to a byte of the second range of an isOrderedBefore that passes: event i is a store by the
 -- thread and from the place of the mark, to another address, and the thread does not fence between them. It is no mark, and in no first
 -- range: a crash can keep the mark and lose it.
@@ -183,3 +189,40 @@ pub record IsStoredAfterMark (T : Recording) (labels : List (Option ℕ)) (i : �
   pub elsewhere : first.addr ≢ second.addr
   pub no_mark : ¬ IsNamed T Second i
   pub no_first : ¬ IsNamed T First i
+
+-- ---- Hints by kind and place
+
+abbrev pub origin_in : List (Option ℕ) → ℕ → Option Event → Origin
+origin_in labels i None = Thread 0
+origin_in labels i (Some e) = origin_of labels i e.thread
+
+-- Event i with its place: its label, or without one its thread.
+abbrev pub placed : Recording → List (Option ℕ) → ℕ → Keyed Origin
+placed T labels i = record { key = origin_in labels i (event T i); number = i }
+
+-- The hint of this kind of the events in the group.
+abbrev pub hint_in : HintKind → Group Origin → Hint
+hint_in kind g = record { kind = kind; place = g.key; path = None; count = length g.members.items; first = first_in g }
+
+-- A hint of this kind for each place of these events.
+abbrev pub AreHintsOf : Recording → List (Option ℕ) → HintKind → List ℕ → List Hint → Type 0
+AreHintsOf T labels kind numbers hints = (groups : List (Group Origin)) × AreGrouped (map (placed T labels) numbers) groups × (hints ≡ map (hint_in kind) groups)
+
+-- The label that a path is.
+abbrev pub path_of : Origin → Option ℕ
+path_of (Label l) = Some l
+path_of (Thread t) = None
+
+-- The hint of this kind of the events of one path: its place is that of the first of them.
+abbrev pub path_hint_in : Recording → List (Option ℕ) → HintKind → Group Origin → Hint
+path_hint_in T labels kind g =
+    record { kind = kind; place = origin_in labels (first_in g) (event T (first_in g)); path = path_of g.key; count = length g.members.items; first = first_in g }
+
+-- There are enough events not to be chance.
+abbrev pub is_enough : Group Origin → Bool
+is_enough g = nat_le 3 (length g.members.items)
+
+-- A hint of this kind for each path from which enough of these events come.
+abbrev pub ArePathHintsOf : Recording → List (Option ℕ) → List (Option ℕ) → HintKind → List ℕ → List Hint → Type 0
+ArePathHintsOf T labels paths kind numbers hints =
+    (groups : List (Group Origin)) × AreGrouped (map (placed T paths) numbers) groups × (hints ≡ map (path_hint_in T labels kind) (filter is_enough groups))

@@ -1,14 +1,7 @@
 pub mod Claiming
 pub mod Contrasts
-pub mod Flagging
-pub mod GoingOn
 pub mod Hints
-pub mod Judging
-pub mod Marking
-pub mod Naming
+pub mod GoingOn
+pub mod Leaving
 pub mod Numbers
-pub mod Parting
-pub mod Placing
-pub mod Splitting
-pub mod Stepping
-pub mod Telling
+pub mod NamedBytes

@@ -1,54 +1,94 @@
-//! Lines that the program claims something of.
+//! Lines that are noted: of flushes that are open those to which a claimed store came since the last flush.
 
-ghost use Rattle.std.specs.Prelude.{◌≡◌, ◌==◌, ◌+◌, ◌-◌, ℕ, filter, IfOk, OnOk};
-ghost use Rattle.std.specs.List.{list_any};
+ghost use Rattle.std.specs.Prelude.{◌≡◌, ◌==◌, ◌&&◌, ◌+◌, ◌-◌, ℕ, IfOk, OnOk};
 ghost use Rattle.pmt_model.specs.Values.{line_of as line_in};
 ghost use Rattle.pmt_model.specs.Traces.{act_of, event};
-ghost use Rattle.pmt_hints.specs.Judging.{flush_line};
-ghost use Rattle.pmt_hints.specs.Claiming.{AreAsked, asked_at, claim_at, claimed_so, event_flush, has_line, is_claimed_line, op_claims, or_so, verdict_claims};
+ghost use Rattle.pmt_model.specs.Keeping.{IsKeep};
+ghost use Rattle.pmt_tables.specs.Flags.{is_kept_at};
+ghost use Rattle.pmt_hints.specs.Hints.{AreClaimedStores};
+ghost use Rattle.pmt_hints.specs.Claiming.{flush_line, AreAsked, AreExcused, asked_at, claim_at, claimed_so, event_flush, has_line, is_claimed_line, noted, noted_by, or_so, unless_so};
 
-use pmt_model::{Format, Op, OutOfMemory, Range, Trace, Verdict, line_of};
+use crate::numbers::{is_flagged, push_if};
+use pmt_model::{Format, Op, OutOfMemory, Range, Selection, Trace, line_of};
 use std::alloc::Global;
 use std::collections::HashMap;
 
-/// Some lines, each by whether an assertion that passes has a byte of it.
+/// Some lines that are asked for, each by whether it is noted.
 pub type Claims = HashMap<u64, bool>;
 
-// The lines of these flushes, each by whether an assertion of these verdicts passes and has a byte of it.
-pub(crate) fn claims_on(
+// The flushes that are kept and excused, of the lines of these flushes. `claimed` tells of each event whether it is a claimed store.
+pub(crate) fn excused_flushes(
     alloc: Global,
     trace: &Trace,
+    kept: &Selection,
     flushes: &[u64],
-    verdicts: &[Verdict],
-) -> Result<Claims, OutOfMemory>
-    ensures { IfOk result (λ claims. (start : _) × AreAsked trace.now flushes.now start × ((l : ℕ) → claim_at claims l ≡ or_so (list_any (verdict_claims trace.now l) verdicts.now) (claim_at start l))) }
-{
-    let mut claims = flushed_lines(alloc, trace, flushes)?;
-    note_verdicts(&mut claims, trace, verdicts)?;
-    Ok(claims)
-}
-
-// Those of these flushes whose lines are claimed.
-pub(crate) fn claimed_flushes(
-    alloc: Global,
-    trace: &Trace,
-    flushes: &[u64],
-    claims: &Claims,
+    claimed: &[bool],
 ) -> Result<Vec<u64>, OutOfMemory>
-    ensures { IfOk result (λ claimed. claimed.items ≡ filter (claimed_so trace.now claims.now) flushes.now) }
+    requires kept { IsKeep trace.now kept.now }
+    requires claimed { AreClaimedStores trace.now claimed.now }
+    ensures { IfOk result (λ excused. AreExcused trace.now flushes.now excused.items) }
 {
-    flushes
-        .iter()
-        .filter(|number| is_claimed(trace, claims, **number))
-        .copied()
-        .collect(alloc)
+    let mut lines = flushed_lines(alloc, trace, flushes)?;
+    let mut excused = Vec::new(alloc);
+    let numbers = kept.numbers();
+    for number in numbers {
+        let number = *number;
+        let is_excused = note_event(&mut lines, trace, claimed, number)?;
+        push_if(&mut excused, is_excused, number)?;
+    }
+    Ok(excused)
 }
 
-// Whether the event is a flush of a line that is claimed.
-fn is_claimed(trace: &Trace, claims: &Claims, number: u64) -> bool
-    ensures { result ≡ claimed_so trace.now claims.now number }
+// Notes the event. Whether it is a flush that waits for a fence, of a line that was noted.
+fn note_event(
+    lines: &mut Claims,
+    trace: &Trace,
+    claimed: &[bool],
+    number: u64,
+) -> Result<bool, OutOfMemory>
+    ensures flush { IfOk result (λ is. is ≡ claimed_so trace.now lines.old number) }
+    ensures lines { OnOk result ((l : ℕ) → claim_at lines.new l ≡ noted trace.now.format (event trace.now number) (is_kept_at claimed.now number) l (claim_at lines.old l)) }
 {
-    is_line_claimed(claims, line_flushed(trace, number))
+    let Some(event) = trace.get(number) else {
+        return Ok(false);
+    };
+    let format = trace.format();
+    let is_noted = is_line_claimed(lines, flushed_line(format, event.thread, event.op));
+    note_op(lines, format, event.op, is_flagged(claimed, number))?;
+    Ok(is_noted)
+}
+
+// Notes the line of the op if it is a store that is claimed, and no longer if it is a flush.
+fn note_op(lines: &mut Claims, format: Format, op: Op, is_claimed: bool) -> Result<(), OutOfMemory>
+    ensures { OnOk result ((t l : ℕ) → claim_at lines.new l ≡ noted_by (act_of format t op) is_claimed l (claim_at lines.old l)) }
+{
+    match op {
+        Op::Store(store) => note_if(lines, line_of(format, store.addr()), is_claimed),
+        Op::Clwb(addr) | Op::ClflushOpt(addr) | Op::Clflush(addr) => {
+            clear_line(lines, line_of(format, addr))
+        }
+        Op::Sfence | Op::Mfence | Op::IsPersist(_) | Op::IsOrderedBefore(_, _) => Ok(()),
+    }
+}
+
+// Notes the line, if the store to it is claimed, and if it is asked for.
+fn note_if(lines: &mut Claims, line: u64, is_claimed: bool) -> Result<(), OutOfMemory>
+    ensures { OnOk result ((l : ℕ) → claim_at lines.new l ≡ or_so (is_claimed && (line == l)) (claim_at lines.old l)) }
+{
+    if is_claimed {
+        note_line(lines, line)?;
+    }
+    Ok(())
+}
+
+// Takes back what was noted of the line.
+fn clear_line(lines: &mut Claims, line: u64) -> Result<(), OutOfMemory>
+    ensures { OnOk result ((l : ℕ) → claim_at lines.new l ≡ unless_so (line == l) (claim_at lines.old l)) }
+{
+    if is_line_claimed(lines, Some(line)) {
+        lines.insert(line, false)?;
+    }
+    Ok(())
 }
 
 /// Whether the line is noted, if there is one.
@@ -71,7 +111,7 @@ fn line_flushed(trace: &Trace, number: u64) -> Option<u64>
     flushed_line(trace.format(), event.thread, event.op)
 }
 
-// The lines of these flushes, none of them claimed.
+// The lines of these flushes, none of them noted.
 fn flushed_lines(alloc: Global, trace: &Trace, flushes: &[u64]) -> Result<Claims, OutOfMemory>
     ensures { IfOk result (AreAsked trace.now flushes.now) }
 {
@@ -95,45 +135,6 @@ pub fn ask_for(claims: &mut Claims, line: Option<u64>) -> Result<(), OutOfMemory
             claims.insert(line, false)?;
             Ok(())
         }
-    }
-}
-
-// Notes what the assertions of these verdicts claim, of those that pass.
-fn note_verdicts(
-    claims: &mut Claims,
-    trace: &Trace,
-    verdicts: &[Verdict],
-) -> Result<(), OutOfMemory>
-    ensures { OnOk result ((l : ℕ) → claim_at claims.new l ≡ or_so (list_any (verdict_claims trace.now l) verdicts.now) (claim_at claims.old l)) }
-{
-    for verdict in verdicts {
-        note_verdict(claims, trace, verdict)?;
-    }
-    Ok(())
-}
-
-// Notes what the assertion of the verdict claims, if it passes.
-fn note_verdict(claims: &mut Claims, trace: &Trace, verdict: &Verdict) -> Result<(), OutOfMemory>
-    ensures { OnOk result ((l : ℕ) → claim_at claims.new l ≡ or_so (verdict_claims trace.now l verdict.now) (claim_at claims.old l)) }
-{
-    if !verdict.pass {
-        return Ok(());
-    }
-    let Some(event) = trace.get(verdict.event) else {
-        return Ok(());
-    };
-    note_op(claims, trace.format(), event.op)
-}
-
-// Notes what the op claims, if it is an assertion.
-fn note_op(claims: &mut Claims, format: Format, op: Op) -> Result<(), OutOfMemory>
-    ensures { OnOk result ((l : ℕ) → claim_at claims.new l ≡ or_so (op_claims format op l) (claim_at claims.old l)) }
-{
-    match op {
-        Op::IsPersist(range) => note_range(claims, format, range),
-        Op::IsOrderedBefore(first, _) => note_range(claims, format, first),
-        Op::Store(_) | Op::Clwb(_) | Op::ClflushOpt(_) | Op::Clflush(_) | Op::Sfence | Op::Mfence =>
-            Ok(()),
     }
 }
 

@@ -1,14 +1,14 @@
 //! How often what is stored to while a flush is open is stored to with nothing open.
 
-ghost use Rattle.std.specs.Prelude.{◌≡◌, ◌==◌, ◌-◌, ◌<◌, ℕ, true, Some, map, option_map, slice_index_or, IfOk, OnOk};
+ghost use Rattle.std.specs.Prelude.{◌≡◌, ◌-◌, ◌<◌, ℕ, true, Some, map, option_map, slice_index_or, IfOk, OnOk};
 ghost use Rattle.pmt_model.specs.Traces.{act_of, event};
-ghost use Rattle.pmt_hints.specs.Contrasts.{AreContrasts, AreNextStores, IsSmall, address_in, as_asked, asked_at, contrast_at, contrast_by, count_at, event_address, is_address, is_asked, more, next_by, nothing, op_address as address_of_op, open_by};
-ghost use Rattle.pmt_hints.specs.Numbers.{of_thread};
+ghost use Rattle.pmt_hints.specs.Contrasts.{AreContrasts, AreNextStores, IsSmall, address_in, as_asked, asked_at, contrast_at, contrast_by, count_at, event_address, is_address, is_asked, more, next_by, nothing, op_address as address_of_op};
 ghost use Rattle.pmt_hints.specs.declared.contrast.Contrast.{Contrast};
 
 use crate::hint::{Hint, HintKind};
 use crate::next_stores::NextStores;
 use crate::per_thread::PerThread;
+use crate::waiting::{is_clear, note_open};
 use pmt_model::{Format, Op, OutOfMemory, Trace, line_of};
 use std::alloc::Global;
 use std::collections::HashMap;
@@ -235,24 +235,5 @@ fn one_more(contrast: Contrast, is_clear: bool) -> Contrast
     Contrast {
         clear: contrast.clear + is_clear as u64,
         all: contrast.all + 1,
-    }
-}
-
-// Whether the thread has nothing open.
-fn is_clear(waiting: &PerThread, thread: u8) -> bool
-    ensures value { result ≡ (of_thread waiting.now thread == 0) }
-    ensures small { thread < 256 }
-{
-    waiting.get(thread) == 0
-}
-
-// The thread gets 1 for a flush that waits for a fence, and 0 for a fence.
-fn note_open(waiting: &mut PerThread, format: Format, thread: u8, op: Op)
-    ensures { (t : ℕ) → t < 256 → of_thread waiting.new t ≡ open_by (act_of format thread op) t (of_thread waiting.old t) }
-{
-    match op {
-        Op::Clwb(_) | Op::ClflushOpt(_) => waiting.set(thread, 1),
-        Op::Sfence | Op::Mfence => waiting.set(thread, 0),
-        Op::Store(_) | Op::Clflush(_) | Op::IsPersist(_) | Op::IsOrderedBefore(_, _) => {}
     }
 }

@@ -2,8 +2,7 @@
 
 ghost use Rattle.std.specs.Prelude.{◌≡◌, ℕ, IfOk, OnOk};
 ghost use Rattle.pmt_model.specs.Traces.{act_of};
-ghost use Rattle.pmt_hints.specs.Numbers.{flush_at};
-ghost use Rattle.pmt_hints.specs.Stepping.{flush_by};
+ghost use Rattle.pmt_hints.specs.Numbers.{flush_at, flush_by};
 
 use pmt_model::{Format, Op, OutOfMemory, line_of};
 use std::collections::HashMap;

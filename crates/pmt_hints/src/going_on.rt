@@ -3,7 +3,7 @@
 ghost use Rattle.std.specs.Prelude.{◌≡◌, ◌==◌, ◌<◌, ℕ, suc, Some, length, slice_index_or, OnOk};
 ghost use Rattle.pmt_model.specs.Traces.{act_of, event};
 ghost use Rattle.pmt_hints.specs.GoingOn.{event_line, is_behind as behind, is_joined as joined, is_lost_or_late as lost_or_late, last_by, line_before as before, line_by, line_if as if_so, line_left as left};
-ghost use Rattle.pmt_hints.specs.Judging.{store_line};
+ghost use Rattle.pmt_hints.specs.Claiming.{store_line};
 ghost use Rattle.pmt_hints.specs.Numbers.{flush_at, of_thread};
 
 use crate::flushers::{Flusher, LastFlushes};

@@ -3,7 +3,7 @@
 ghost use Rattle.std.specs.Prelude.{◌≡◌, filter, length, map, IfOk};
 ghost use Rattle.pmt_model.specs.Traces.{event};
 ghost use Rattle.pmt_causes.specs.Groups.{first_in};
-ghost use Rattle.pmt_hints.specs.Placing.{AreHintsOf, ArePathHintsOf, hint_in, is_enough as is_enough_in, origin_in, path_hint_in, path_of as path_in, placed};
+ghost use Rattle.pmt_hints.specs.Hints.{AreHintsOf, ArePathHintsOf, hint_in, is_enough as is_enough_in, origin_in, path_hint_in, path_of as path_in, placed};
 
 use pmt_causes::{Group, Keyed, Origin, groups, origin_of};
 use pmt_model::{OutOfMemory, Trace};

@@ -10,6 +10,7 @@ mod flushers;
 mod going_on;
 pub mod hint;
 pub mod named;
+mod named_bytes;
 mod next_stores;
 mod numbers;
 pub mod open_at;
@@ -18,6 +19,7 @@ mod places;
 pub mod short_runs;
 pub mod split_word;
 pub mod stored_after;
+mod waiting;
 
 pub use crate::after_mark::stored_after_mark;
 pub use crate::contrast::{Contrast, contrasts_of};

@@ -1,18 +1,13 @@
 //! Stores that assertions name: of a range of one that passes the last store to each byte.
 
-ghost use Rattle.std.specs.Prelude.{◌≡◌, ◌+◌, ◌*◌, ◌^◌, ◌≤◌, ◌<◌, ℕ, length, IfOk, OnOk};
+ghost use Rattle.std.specs.Prelude.{◌≡◌, ◌≤◌, ℕ, length, false, replicate, IfOk, OnOk};
 ghost use Rattle.pmt_model.specs.Analyses.{IsVerdicts};
-ghost use Rattle.pmt_model.specs.Traces.{Recording};
-ghost use Rattle.pmt_tables.specs.Lasts.{IsLastTo, last_at};
-ghost use Rattle.pmt_causes.specs.Writers.{AreAllWriters};
-ghost use Rattle.pmt_explain.specs.Blocks.{AreBlocks};
-ghost use Rattle.pmt_hints.specs.Hints.{AreClaimedStores, IsNamed};
-ghost use Rattle.pmt_hints.specs.Flagging.{AreFlags};
-ghost use Rattle.pmt_hints.specs.Naming.{IsLastBetween, IsNamedBy, Marks, op_range as range_in, verdict_range};
+ghost use Rattle.pmt_hints.specs.Hints.{AreClaimedStores, IsNamed, AreFlags};
+ghost use Rattle.pmt_hints.specs.NamedBytes.{Adds, AreNamedBytes};
+ghost use Rattle.pmt_hints.specs.Claiming.{AreNaming, GoesBack, IsNamedIn, IsNamingBy, Marks, op_range as range_in, verdict_range};
 
-use pmt_explain::LastWriters;
+use crate::named_bytes::NamedBytes;
 use pmt_model::{Op, OutOfMemory, Range, Trace, Verdict};
-use pmt_tables::Words;
 use std::alloc::Global;
 
 /// Which range of an assertion that passes.
@@ -29,7 +24,8 @@ pub(crate) enum Role {
 /// Of each event, in order, whether it is a store that is claimed: an isPersist, or the first range of an isOrderedBefore, that passes names
 /// one of its bytes while it is the last store to that byte. `verdicts` are those of the trace.
 ///
-/// If an assertion passes, it takes one look at each event, and one look-up at each word of 8 bytes that such an assertion names.
+/// It takes one look at each event before the last assertion that passes, one look-up at each store among them, and one at each 64 bytes
+/// that such an assertion names.
 ///
 /// # Errors
 /// Where memory was refused.
@@ -54,40 +50,101 @@ pub(crate) fn named_stores(
     requires { IsVerdicts trace.now verdicts.now }
     ensures { IfOk result (λ flags. AreFlags (IsNamed trace.now role) (length trace.now.events) flags.items) }
 {
-    let mut writers = LastWriters::new(alloc);
-    let mut flags = vec![in alloc; false; trace.len()]?;
-    for verdict in verdicts {
-        mark_verdict(
-            alloc,
-            flags.as_mut_slice(),
-            &mut writers,
-            trace,
-            role,
-            verdict,
-        )?;
+    let mut naming = vec![in alloc; false; trace.len()]?;
+    let end = mark_naming(naming.as_mut_slice(), trace, role, verdicts);
+    stores_before(alloc, trace, role, naming.as_slice(), end)
+}
+
+// The same, by one pass back from the last assertion that passes and has such a range. Its number is `end`, or that is 0 where there is none,
+// and `naming` tells of each event whether it is one.
+fn stores_before(
+    alloc: Global,
+    trace: &Trace,
+    role: Role,
+    naming: &[bool],
+    end: usize,
+) -> Result<Vec<bool>, OutOfMemory>
+    requires { AreNaming trace.now role naming.now end }
+    ensures { IfOk result (λ flags. AreFlags (IsNamed trace.now role) (length trace.now.events) flags.items) }
+{
+    let events = trace.events();
+    let mut flags = vec![in alloc; false; events.len()]?;
+    let mut bytes = NamedBytes::new(alloc);
+    for index in (0..end).rev() {
+        let event = events[index];
+        let is_naming = naming[index];
+        let is_named = go_back(&mut bytes, role, is_naming, event.op)?;
+        flags[index] = is_named;
     }
     Ok(flags)
 }
 
-// Marks the stores that the assertion of the verdict names so, if it passes.
+// Goes back over an op, of an assertion that passes and has such a range or not: whether it is a store to one of the bytes. Those that it
+// stores leave them, and those that it names join them.
+fn go_back(bytes: &mut NamedBytes, role: Role, is_naming: bool, op: Op) -> Result<bool, OutOfMemory>
+    requires { AreNamedBytes bytes.old }
+    ensures { IfOk result (λ is_named. GoesBack role is_naming op bytes.old is_named bytes.new) }
+{
+    match op {
+        Op::Store(store) => Ok(bytes.take(store)),
+        Op::IsPersist(_) | Op::IsOrderedBefore(_, _) => {
+            add_named(bytes, role, is_naming, op)?;
+            Ok(false)
+        }
+        Op::Clwb(_) | Op::ClflushOpt(_) | Op::Clflush(_) | Op::Sfence | Op::Mfence => Ok(false),
+    }
+}
+
+// Adds the bytes that the op names, if it is of an assertion that passes and has such a range.
+fn add_named(bytes: &mut NamedBytes, role: Role, is_naming: bool, op: Op) -> Result<(), OutOfMemory>
+    requires { AreNamedBytes bytes.old }
+    ensures { OnOk result (Adds (IsNamedIn role is_naming op) bytes.old bytes.new) }
+{
+    if !is_naming {
+        return Ok(());
+    }
+    let Some(range) = op_range(role, op) else {
+        return Ok(());
+    };
+    bytes.add(range)?;
+    Ok(())
+}
+
+// Marks each event that is an assertion that passes and has such a range: the number of the last one, or 0 where there is none.
+fn mark_naming(naming: &mut [bool], trace: &Trace, role: Role, verdicts: &[Verdict]) -> usize
+    requires verdicts { IsVerdicts trace.now verdicts.now }
+    requires none { naming.old ≡ replicate (length trace.now.events) false }
+    ensures { AreNaming trace.now role naming.new result }
+{
+    let mut end = 0;
+    for verdict in verdicts {
+        end = mark_verdict(naming, trace, role, verdict, end);
+    }
+    end
+}
+
+// Marks the assertion of the verdict, if it passes and has such a range: the higher one of its number and `end`, which else stays.
 fn mark_verdict(
-    alloc: Global,
-    flags: &mut [bool],
-    writers: &mut LastWriters,
+    naming: &mut [bool],
     trace: &Trace,
     role: Role,
     verdict: &Verdict,
-) -> Result<(), OutOfMemory>
-    requires { AreAllWriters trace.now writers.old }
-    ensures writers { OnOk result (AreAllWriters trace.now writers.new) }
-    ensures flags { OnOk result (Marks (IsNamedBy trace.now role verdict.now) flags.old flags.new) }
+    end: usize,
+) -> usize
+    requires { length naming.old ≡ length trace.now.events }
+    ensures marked { Marks (IsNamingBy trace.now role verdict.now) naming.old naming.new }
+    ensures last { (i : ℕ) → IsNamingBy trace.now role verdict.now i → i ≤ result }
+    ensures higher { end ≤ result }
+    ensures within { end ≤ length trace.now.events → result ≤ length trace.now.events }
 {
-    let Some(range) = range_of(trace, role, verdict) else {
-        return Ok(());
-    };
-    writers.go_to(alloc, trace, verdict.event)?;
-    mark_range(flags, writers, range);
-    Ok(())
+    match range_of(trace, role, verdict) {
+        None => end,
+        Some(_) => {
+            let number = verdict.event as usize;
+            naming[number - 1] = true;
+            number.max(end)
+        }
+    }
 }
 
 // The range of this role of the assertion of the verdict, if it passes.
@@ -118,67 +175,5 @@ fn op_range(role: Role, op: Op) -> Option<Range>
         },
         Op::Store(_) | Op::Clwb(_) | Op::ClflushOpt(_) | Op::Clflush(_) | Op::Sfence | Op::Mfence =>
             None,
-    }
-}
-
-// Marks the last store to each byte of the range.
-fn mark_range(flags: &mut [bool], writers: &LastWriters, range: Range)
-    requires { AreBlocks writers.now.blocks }
-    ensures { (T : Recording) → AreAllWriters T writers.now → Marks (IsLastBetween T writers.now.place range.addr (range.addr + range.len)) flags.old flags.new }
-{
-    let low = range.addr().get();
-    let high = low + range.len();
-    for word in low / 8..(high - 1) / 8 + 1 {
-        let start = low.max(word * 8);
-        let end = high.min(word * 8 + 8);
-        mark_word(flags, writers, word, start, end);
-    }
-}
-
-// Marks the last store to each byte from `low` to `high`, which are of this word.
-fn mark_word(flags: &mut [bool], writers: &LastWriters, word: u64, low: u64, high: u64)
-    requires blocks { AreBlocks writers.now.blocks }
-    requires from { word * 8 ≤ low }
-    requires some { low < high }
-    requires to { high ≤ word * 8 + 8 }
-    requires few { high ≤ 2 ^ 48 }
-    ensures { (T : Recording) → AreAllWriters T writers.now → Marks (IsLastBetween T writers.now.place low high) flags.old flags.new }
-{
-    if let Some(place) = writers.place_of(word / 8) {
-        let index = place * 8 + (word % 8) as usize;
-        mark_bytes(
-            flags,
-            writers.words(),
-            index,
-            (low - word * 8) as u32,
-            (high - word * 8) as u32,
-        );
-    }
-}
-
-// Marks the last store to each of these bytes of the word at the index.
-fn mark_bytes(flags: &mut [bool], words: &Words, index: usize, low: u32, high: u32)
-    requires within { index < length words.now }
-    requires some { low < high }
-    requires eight { high ≤ 8 }
-    ensures { Marks (IsLastTo low high (last_at words.now index)) flags.old flags.new }
-{
-    let newest = words.newest(index, low, high);
-    if words.oldest(index, low, high) == newest {
-        mark(flags, newest);
-        return;
-    }
-    for byte in low..high {
-        mark(flags, words.newest(index, byte, byte + 1));
-    }
-}
-
-// Marks the event with this number, if it has a flag.
-fn mark(flags: &mut [bool], number: u32)
-    ensures { Marks (λ i. number ≡ i) flags.old flags.new }
-{
-    let number = number as usize;
-    if 1 <= number && number <= flags.len() {
-        flags[number - 1] = true;
     }
 }

@@ -2,8 +2,7 @@
 
 ghost use Rattle.std.specs.Prelude.{◌≡◌, ◌==◌, ◌<◌, ℕ, if◌then◌else◌};
 ghost use Rattle.pmt_model.specs.Traces.{act_of};
-ghost use Rattle.pmt_hints.specs.Numbers.{elsewhere_at};
-ghost use Rattle.pmt_hints.specs.Stepping.{store_by};
+ghost use Rattle.pmt_hints.specs.Numbers.{elsewhere_at, store_by};
 
 use crate::per_thread::PerThread;
 use pmt_model::{Format, Op, line_of};

@@ -1,39 +1,29 @@
 //! Flushes that their thread has not fenced when it stores to another line.
 
-ghost use Rattle.std.specs.Prelude.{◌≡◌, ◌<◌, ◌||◌, ℕ, true, length, not, filter, IfOk, OnOk};
+ghost use Rattle.std.specs.Prelude.{◌≡◌, ◌<◌, ℕ, true, length, not, filter, IfOk, OnOk};
 ghost use Rattle.pmt_model.specs.Traces.{act_of, event};
 ghost use Rattle.pmt_model.specs.Analyses.{IsVerdicts};
 ghost use Rattle.pmt_model.specs.Keeping.{IsKeep};
-ghost use Rattle.pmt_model.specs.Selections.{IsRising};
 ghost use Rattle.pmt_tables.specs.Flags.{is_kept_at};
-ghost use Rattle.pmt_hints.specs.Hints.{AreThose, IsOpenAtStore, IsOpenFlush, IsOpenThroughout, IsToldOnPath, IsToldOpen};
-ghost use Rattle.pmt_hints.specs.Flagging.{AreFlags};
-ghost use Rattle.pmt_hints.specs.Parting.{AreParted};
-ghost use Rattle.pmt_hints.specs.Stepping.{open_so};
-ghost use Rattle.pmt_hints.specs.Telling.{AreClosed, is_closed as is_closed_in, told_so};
+ghost use Rattle.pmt_hints.specs.Hints.{AreThose, IsOpenAtStore, IsOpenFlush, IsOpenThroughout, IsToldOnPath, IsToldOpen, AreFlags};
+ghost use Rattle.pmt_hints.specs.Numbers.{open_so};
+ghost use Rattle.pmt_hints.specs.Contrasts.{AreClosed, is_closed as is_closed_in, told_so};
 
-use crate::claims::{claimed_flushes, claims_on};
+use crate::claims::excused_flushes;
+use crate::named::claimed_stores;
 use crate::next_stores::NextStores;
-use crate::numbers::selection_of;
+use crate::numbers::{is_flagged, selection_of, unflagged};
 use crate::per_thread::PerThread;
 use crate::places::{Places, flush_place};
+use crate::waiting::has_store_while_open;
 use pmt_causes::Origin;
 use pmt_model::{Format, Op, OutOfMemory, Selection, Trace, Verdict, line_of};
 use std::alloc::Global;
 
-// Some flushes by their numbers.
-#[derive(Drop)]
-struct Parted {
-    // Those that their thread has not fenced when it stores to another line.
-    passed: Vec<u64>,
-    // The others.
-    others: Vec<u64>,
-}
-
 /// The flushes that are kept, and that their thread has not fenced when it stores to another line: what it stores there may persist
 /// before what was flushed. `kept` is what is kept of the trace.
 ///
-/// It takes one look at each event, and two at each that is kept.
+/// It takes one look at each event, and one at each that is kept.
 ///
 /// # Errors
 /// Where memory was refused.
@@ -45,16 +35,18 @@ pub fn open_at_store(
     requires { IsKeep trace.now kept.now }
     ensures { IfOk result (AreThose (IsOpenAtStore trace.now)) }
 {
-    let Parted { passed, others: _ } = parted_flushes(alloc, trace, kept.numbers())?;
-    Ok(selection_of(passed))
+    let flags = open_flags(alloc, trace)?;
+    let open = flagged(alloc, kept.numbers(), flags.as_slice())?;
+    Ok(selection_of(open))
 }
 
-/// Those of these flushes that are told: at whose place each flush that is kept is one, and none is of a line of which an assertion that
-/// passes has a byte. `labels` are the numbers of the labels of the events, in order; an event past their end has none. A place is a label,
-/// or without one a thread. `verdicts` are those of the trace.
+/// Those of these flushes that are told: at whose place each flush that is kept is one, and none is excused. A flush is excused if a store
+/// to its line is claimed, and no flush of the line that is kept comes between the two. `labels` are the numbers of the labels of the
+/// events, in order; an event past their end has none. A place is a label, or without one a thread. `verdicts` are those of the trace.
 ///
-/// It takes one look at each event, and three at each that is kept. A label that is above the number of `labels` takes a look-up at each of
-/// its flushes. If there is such a place, it takes one at each of its flushes, and at each line of an assertion that passes.
+/// It takes one look at each event, and one at each that is kept. Where one of these flushes is kept, it takes two more at each event that
+/// is kept, and a label that is above the number of `labels` takes a look-up at each of its flushes. Where there is such a place, it takes
+/// what `claimed_stores` takes, and up to two look-ups at each store that is claimed and at each flush that is kept.
 ///
 /// # Errors
 /// Where memory was refused.
@@ -71,7 +63,14 @@ pub fn told_open(
     ensures { IfOk result (AreThose (IsToldOpen trace.now labels.now)) }
 {
     let open = open_throughout(alloc, trace, kept, labels)?;
-    let told = unclaimed(alloc, trace, open.numbers(), verdicts, labels)?;
+    if open.is_empty() {
+        return Ok(open);
+    }
+    let flushes = open.numbers();
+    let claimed = claimed_stores(alloc, trace, verdicts)?;
+    let excused = excused_flushes(alloc, trace, kept, flushes, claimed.as_slice())?;
+    let closed = closed_places(alloc, trace, labels, excused.as_slice())?;
+    let told = told_numbers(alloc, trace, labels, flushes, &closed)?;
     Ok(selection_of(told))
 }
 
@@ -126,42 +125,17 @@ fn open_throughout(
     requires { IsKeep trace.now kept.now }
     ensures { IfOk result (AreThose (IsOpenThroughout trace.now labels.now)) }
 {
-    let Parted { passed, others } = parted_flushes(alloc, trace, kept.numbers())?;
-    let closed = closed_places(alloc, trace, labels, others.as_slice())?;
-    let told = told_numbers(alloc, trace, labels, passed.as_slice(), &closed)?;
-    Ok(selection_of(told))
-}
-
-// Those of these flushes, all of their places, at whose place none is of a line that an assertion of these verdicts claims and passes.
-fn unclaimed(
-    alloc: Global,
-    trace: &Trace,
-    flushes: &[u64],
-    verdicts: &[Verdict],
-    labels: &[Option<u64>],
-) -> Result<Vec<u64>, OutOfMemory>
-    requires verdicts { IsVerdicts trace.now verdicts.now }
-    requires open { AreThose (IsOpenThroughout trace.now labels.now) flushes.now }
-    ensures { IfOk result (λ told. AreThose (IsToldOpen trace.now labels.now) told.items) }
-{
-    if flushes.is_empty() {
-        return Ok(Vec::new(alloc));
+    let flags = open_flags(alloc, trace)?;
+    let flags = flags.as_slice();
+    let numbers = kept.numbers();
+    let open = flagged(alloc, numbers, flags)?;
+    if open.is_empty() {
+        return Ok(selection_of(open));
     }
-    let claims = claims_on(alloc, trace, flushes, verdicts)?;
-    let claimed = claimed_flushes(alloc, trace, flushes, &claims)?;
-    let closed = closed_places(alloc, trace, labels, claimed.as_slice())?;
-    told_numbers(alloc, trace, labels, flushes, &closed)
-}
-
-// The flushes among the events with these numbers.
-fn parted_flushes(alloc: Global, trace: &Trace, numbers: &[u64]) -> Result<Parted, OutOfMemory>
-    requires { IsRising 0 numbers.now }
-    ensures { IfOk result (λ parted. AreParted trace.now numbers.now parted.passed.items parted.others.items) }
-{
-    let flags = all_open(alloc, trace)?;
-    let passed = flagged(alloc, numbers, flags.as_slice())?;
-    let others = unflagged(alloc, numbers, flags.as_slice())?;
-    Ok(Parted { passed, others })
+    let others = unflagged(alloc, numbers, flags)?;
+    let closed = closed_places(alloc, trace, labels, others.as_slice())?;
+    let told = told_numbers(alloc, trace, labels, open.as_slice(), &closed)?;
+    Ok(selection_of(told))
 }
 
 // The places of these flushes.
@@ -226,31 +200,18 @@ fn flagged(alloc: Global, numbers: &[u64], flags: &[bool]) -> Result<Vec<u64>, O
         .collect(alloc)
 }
 
-// Those of these numbers whose events are not flagged.
-fn unflagged(alloc: Global, numbers: &[u64], flags: &[bool]) -> Result<Vec<u64>, OutOfMemory>
-    ensures { IfOk result (λ chosen. chosen.items ≡ filter (λ i. not (is_kept_at flags.now i)) numbers.now) }
-{
-    numbers
-        .iter()
-        .filter(|number| !is_flagged(flags, **number))
-        .copied()
-        .collect(alloc)
-}
-
-// Whether the event is flagged.
-fn is_flagged(flags: &[bool], number: u64) -> bool
-    ensures { result ≡ is_kept_at flags.now number }
-{
-    let Some(index) = number.checked_sub(1) else {
-        return false;
-    };
-    match flags.get(index as usize) {
-        Some(flag) => *flag,
-        None => false,
-    }
-}
-
 // Of each event whether it is a flush that its thread has not fenced when it stores to another line.
+fn open_flags(alloc: Global, trace: &Trace) -> Result<Vec<bool>, OutOfMemory>
+    ensures { IfOk result (λ flags. AreFlags (IsOpenFlush trace.now) (length trace.now.events) flags.items) }
+{
+    if has_store_while_open(trace) {
+        return all_open(alloc, trace);
+    }
+    let flags = vec![in alloc; false; trace.len()]?;
+    Ok(flags)
+}
+
+// The same, by what each thread does next.
 fn all_open(alloc: Global, trace: &Trace) -> Result<Vec<bool>, OutOfMemory>
     ensures { IfOk result (λ flags. AreFlags (IsOpenFlush trace.now) (length trace.now.events) flags.items) }
 {

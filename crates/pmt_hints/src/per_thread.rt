@@ -1,8 +1,7 @@
 //! A number of each thread.
 
-ghost use Rattle.std.specs.Prelude.{◌≡◌, ◌==◌, ℕ, ◌<◌, if◌then◌else◌, length};
-ghost use Rattle.pmt_hints.specs.Numbers.{of_thread};
-ghost use Rattle.pmt_hints.specs.Stepping.{any_store_by, fence_by};
+ghost use Rattle.std.specs.Prelude.{◌≡◌, ◌==◌, ◌&&◌, ℕ, ◌<◌, if◌then◌else◌, length};
+ghost use Rattle.pmt_hints.specs.Numbers.{of_thread, any_store_by, fence_by};
 ghost use Rattle.pmt_model.specs.Traces.{act_of};
 
 use pmt_model::{Format, Op};
@@ -35,6 +34,15 @@ impl PerThread {
         ensures { (t : ℕ) → t < 256 → of_thread self.new t ≡ (if thread == t then number else of_thread self.old t) }
     {
         self.numbers[thread as usize] = number;
+    }
+
+    // The thread gets another one, if it is so.
+    pub(crate) fn set_if(&mut self, is_so: bool, thread: u8, number: u64)
+        ensures { (t : ℕ) → t < 256 → of_thread self.new t ≡ (if is_so && (thread == t) then number else of_thread self.old t) }
+    {
+        if is_so {
+            self.set(thread, number);
+        }
     }
 
     // The number of the event becomes that of its thread, if it is a fence.

@@ -3,7 +3,7 @@
 ghost use Rattle.std.specs.Prelude.{◌≡◌, ◌||◌, ◌==◌, ℕ, false, nat_eq, replicate, unwrap_or, IfOk, OnOk};
 ghost use Rattle.std.specs.HashMap.{get};
 ghost use Rattle.pmt_model.specs.Traces.{event};
-ghost use Rattle.pmt_hints.specs.Telling.{has_label as has_label_in, has_place, is_place, op_place as op_place_in, place_of as place_in};
+ghost use Rattle.pmt_hints.specs.Contrasts.{has_label as has_label_in, has_place, is_place, op_place as op_place_in, place_of as place_in};
 ghost use Rattle.pmt_causes.specs.declared.failure_keys.Origin.{Origin};
 
 use pmt_causes::{Origin, origin_of};

@@ -2,7 +2,7 @@
 
 ghost use Rattle.std.specs.Prelude.{◌≡◌, ◌<◌, ◌≤◌, ℕ, Some, false, length, slice_get, IfOk};
 ghost use Rattle.pmt_model.specs.Traces.{act_of};
-ghost use Rattle.pmt_explain.specs.Saving.{AreSafePlaces};
+ghost use Rattle.pmt_explain.specs.Following.{AreSafePlaces};
 ghost use Rattle.pmt_causes.specs.Late.{AreWaited};
 ghost use Rattle.pmt_hints.specs.GoingOn.{IsRest, is_line_short as is_line_short_in, is_lost_or_late as lost_or_late, short_so};
 ghost use Rattle.pmt_hints.specs.Hints.{AreThose, IsOneLineShort};

@@ -3,7 +3,7 @@
 ghost use Rattle.std.specs.Prelude.{◌≡◌, ◌<◌, ◌+◌, ◌%◌, ◌==◌, ◌&&◌, ◌||◌, ℕ, length, nat_le, IfOk};
 ghost use Rattle.pmt_model.specs.Traces.{event};
 ghost use Rattle.pmt_hints.specs.Hints.{AreThose, IsSplitWord};
-ghost use Rattle.pmt_hints.specs.Splitting.{begins_or_ends, event_part, is_same_place, joins as joins_in, may_join as may_join_in, op_part, split_so, store_of_thread};
+ghost use Rattle.pmt_hints.specs.GoingOn.{begins_or_ends, event_part, is_same_place, joins as joins_in, may_join as may_join_in, op_part, split_so, store_of_thread};
 ghost use Rattle.pmt_hints.specs.Numbers.{of_thread};
 
 use crate::numbers::{push_if, selection_of};

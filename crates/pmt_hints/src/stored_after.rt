@@ -1,34 +1,31 @@
 //! Stores to a line that their thread has flushed before and not fenced since.
 
-ghost use Rattle.std.specs.Prelude.{◌≡◌, ◌<◌, ◌&&◌, ℕ, Some, false, length, slice_get, IfOk, OnOk};
+ghost use Rattle.std.specs.Prelude.{◌≡◌, ◌<◌, ◌&&◌, ℕ, Some, false, length, slice_get, slice_index_or, filter, IfOk};
 ghost use Rattle.pmt_model.specs.Traces.{act_of};
+ghost use Rattle.pmt_explain.specs.Following.{AreSafePlaces};
 ghost use Rattle.pmt_causes.specs.Late.{AreWaited};
-ghost use Rattle.pmt_causes.specs.Numbers.{number_at};
-ghost use Rattle.pmt_causes.specs.Flushing.{next_before};
-ghost use Rattle.pmt_hints.specs.Hints.{AreThose, IsAfterOpenFlush, IsStoredAfterFlush};
-ghost use Rattle.pmt_hints.specs.Flagging.{AreFlags};
-ghost use Rattle.pmt_hints.specs.Judging.{left_unsafe};
-ghost use Rattle.pmt_hints.specs.Stepping.{after_open, left_so};
+ghost use Rattle.pmt_hints.specs.Hints.{AreThose, IsStoredAfterFlush};
+ghost use Rattle.pmt_hints.specs.Leaving.{IsLeftOpen, is_fenced_first as is_fenced_first_in};
+ghost use Rattle.pmt_hints.specs.Claiming.{left_unsafe};
+ghost use Rattle.pmt_hints.specs.Numbers.{after_open};
 
 use crate::flushers::{LastFlushes, last_flush, note_flush};
-use crate::numbers::selection_of;
+use crate::numbers::{push_if, selection_of};
 use crate::per_thread::PerThread;
-use pmt_explain::SafePlaces;
+use crate::waiting::has_store_while_open;
+use pmt_explain::{SafePlaces, next_flushes, number_of, own_fences};
 use pmt_model::{Format, Op, OutOfMemory, Selection, Trace, line_of};
-use pmt_tables::marked_numbers;
 use std::alloc::Global;
 use std::collections::HashMap;
-
-/// The next flush of each line that has one: its number by the line's.
-type NextFlushes = HashMap<u64, u64>;
 
 /// The stores to a line that their thread has flushed before and not fenced since, and of which no flush of the line stands between the
 /// store and that thread's next fence: the flush came too early for them.
 ///
 /// `waited` is for how many fences each event of the trace of these places waits.
 ///
-/// It takes one look at each event. If a fence of its thread leaves a store unsafe, or one is never safe, it takes two more, each with one
-/// look-up, and keeps two numbers of each line.
+/// It takes one look at each event, and another one if a fence of its thread leaves a store unsafe, or one is never safe. If a thread stores
+/// while it has a flush open, it takes one more, with a look-up at each flush and each of these stores, and keeps a number of each line; if such
+/// a store comes after its flush, it takes two more, with a look-up at each store and flush.
 ///
 /// # Errors
 /// Where memory was refused.
@@ -44,7 +41,11 @@ pub fn stored_after_flush(
     if !is_any_left(waited, safe.places()) {
         return Ok(selection_of(Vec::new(alloc)));
     }
-    all_stores(alloc, trace)
+    if !has_store_while_open(trace) {
+        return Ok(selection_of(Vec::new(alloc)));
+    }
+    let numbers = stores_left(alloc, trace, safe.places(), waited)?;
+    Ok(selection_of(numbers))
 }
 
 // Whether a fence of its thread leaves a store unsafe, or one is never safe.
@@ -68,46 +69,109 @@ fn is_left_unsafe(waited: u64, safe: u64, events: u64) -> bool
     1 <= waited || events < safe
 }
 
-// The same, where there is one.
-fn all_stores(alloc: Global, trace: &Trace) -> Result<Selection, OutOfMemory>
-    ensures { IfOk result (AreThose (IsStoredAfterFlush trace.now)) }
+// The same of the event at this index.
+#[inline(always)]
+fn is_left_at(waited: &[u64], places: &[u64], index: usize) -> bool
+    requires waited { index < length waited.now }
+    requires places { index < length places.now }
+    ensures { result ≡ left_unsafe (slice_index_or waited.now index 0) (slice_index_or places.now index 0) (length places.now) }
 {
-    let open = after_open_flush(alloc, trace)?;
-    let flags = left_by_flushes(alloc, trace, open.as_slice())?;
-    marked_numbers(alloc, flags.as_slice())
+    is_left_unsafe(waited[index], places[index], places.len() as u64)
 }
 
-// Of each event whether it is a store to a line that its thread has flushed before and not fenced since.
-fn after_open_flush(alloc: Global, trace: &Trace) -> Result<Vec<bool>, OutOfMemory>
-    ensures { IfOk result (λ flags. AreFlags (IsAfterOpenFlush trace.now) (length trace.now.events) flags.items) }
+// The numbers of such stores.
+fn stores_left(
+    alloc: Global,
+    trace: &Trace,
+    places: &[u64],
+    waited: &[u64],
+) -> Result<Vec<u64>, OutOfMemory>
+    requires places { AreSafePlaces trace.now places.now }
+    requires waited { AreWaited trace.now waited.now }
+    ensures { IfOk result (λ numbers. AreThose (IsStoredAfterFlush trace.now) numbers.items) }
+{
+    let open = open_stores(alloc, trace, places, waited)?;
+    if open.is_empty() {
+        return Ok(open);
+    }
+    let fences = own_fences(alloc, trace)?;
+    let flushes = next_flushes(alloc, trace)?;
+    fenced_first(
+        alloc,
+        open.as_slice(),
+        fences.as_slice(),
+        flushes.as_slice(),
+    )
+}
+
+// Those of these stores whose next own fence is no later than the next flush of their line, by these lists.
+fn fenced_first(
+    alloc: Global,
+    stores: &[u64],
+    fences: &[u64],
+    flushes: &[u64],
+) -> Result<Vec<u64>, OutOfMemory>
+    ensures { IfOk result (λ left. left.items ≡ filter (is_fenced_first_in fences.now flushes.now) stores.now) }
+{
+    stores
+        .iter()
+        .filter(|number| is_fenced_first(fences, flushes, **number))
+        .copied()
+        .collect(alloc)
+}
+
+// The same of a store.
+fn is_fenced_first(fences: &[u64], flushes: &[u64], number: u64) -> bool
+    ensures { result ≡ is_fenced_first_in fences.now flushes.now number }
+{
+    number_of(fences, number) <= number_of(flushes, number)
+}
+
+// The stores to a line that their thread has flushed before and not fenced since, of those that a fence of their thread leaves unsafe or
+// that are never safe.
+fn open_stores(
+    alloc: Global,
+    trace: &Trace,
+    places: &[u64],
+    waited: &[u64],
+) -> Result<Vec<u64>, OutOfMemory>
+    requires places { length places.now ≡ length trace.now.events }
+    requires waited { length waited.now ≡ length trace.now.events }
+    ensures { IfOk result (λ numbers. AreThose (IsLeftOpen trace.now waited.now places.now) numbers.items) }
 {
     let format = trace.format();
     let events = trace.events();
     let mut fences = PerThread::new(0);
     let mut flushes = HashMap::new(alloc);
-    let mut flags = Vec::with_capacity(alloc, events.len())?;
+    let mut numbers = Vec::new(alloc);
     for index in 0..events.len() {
         let event = events[index];
         let number = index as u64 + 1;
-        let flag = is_after_open(&fences, &flushes, format, event.thread, event.op);
-        flags.push(flag)?;
+        let is_left = is_left_at(waited, places, index);
+        let is_told = is_after_open(is_left, &fences, &flushes, format, event.thread, event.op);
+        push_if(&mut numbers, is_told, number)?;
         fences.note_fence(format, event.thread, event.op, number);
         note_flush(&mut flushes, format, event.thread, event.op, number)?;
     }
-    Ok(flags)
+    Ok(numbers)
 }
 
-// Whether the op is a store to a line whose last flush by its thread comes after that thread's last fence.
+// Whether it is one of these, and the op is a store to a line whose last flush by its thread comes after that thread's last fence.
+#[inline(always)]
 fn is_after_open(
+    is_left: bool,
     fences: &PerThread,
     flushes: &LastFlushes,
     format: Format,
     thread: u8,
     op: Op,
 ) -> bool
-    ensures value { result ≡ after_open fences.now flushes.now thread (act_of format thread op) }
+    ensures value { result ≡ (is_left && after_open fences.now flushes.now thread (act_of format thread op)) }
     ensures small { thread < 256 }
 {
+    if !is_left {
+        return false;
+    }
     match op {
         Op::Store(store) => {
             let line = line_of(format, store.addr());
@@ -120,87 +184,5 @@ fn is_after_open(
         | Op::Mfence
         | Op::IsPersist(_)
         | Op::IsOrderedBefore(_, _) => false,
-    }
-}
-
-// Those of these stores whose line is not flushed again before the next fence of their thread.
-fn left_by_flushes(alloc: Global, trace: &Trace, open: &[bool]) -> Result<Vec<bool>, OutOfMemory>
-    requires { AreFlags (IsAfterOpenFlush trace.now) (length trace.now.events) open.now }
-    ensures { IfOk result (λ flags. AreFlags (IsStoredAfterFlush trace.now) (length trace.now.events) flags.items) }
-{
-    let format = trace.format();
-    let events = trace.events();
-    let past = events.len() as u64 + 1;
-    let mut fences = PerThread::new(past);
-    let mut flushes = HashMap::new(alloc);
-    let mut flags = vec![in alloc; false; events.len()]?;
-    for index in (0..events.len()).rev() {
-        let event = events[index];
-        let number = index as u64 + 1;
-        let is_open = open[index];
-        let flag = is_left(
-            is_open,
-            &fences,
-            &flushes,
-            format,
-            event.thread,
-            event.op,
-            past,
-        );
-        flags[index] = flag;
-        fences.note_fence(format, event.thread, event.op, number);
-        note_next(&mut flushes, format, event.op, number)?;
-    }
-    Ok(flags)
-}
-
-// Whether it is one of these stores, and the next fence of its thread comes before the next flush of its line.
-fn is_left(
-    is_open: bool,
-    fences: &PerThread,
-    flushes: &NextFlushes,
-    format: Format,
-    thread: u8,
-    op: Op,
-    past: u64,
-) -> bool
-    ensures value { result ≡ (is_open && left_so fences.now flushes.now past thread (act_of format thread op)) }
-    ensures small { thread < 256 }
-{
-    if !is_open {
-        return false;
-    }
-    match op {
-        Op::Store(store) => {
-            let line = line_of(format, store.addr());
-            fences.get(thread) <= flushes.get(&line).copied().unwrap_or(past)
-        }
-        Op::Clwb(_)
-        | Op::ClflushOpt(_)
-        | Op::Clflush(_)
-        | Op::Sfence
-        | Op::Mfence
-        | Op::IsPersist(_)
-        | Op::IsOrderedBefore(_, _) => false,
-    }
-}
-
-// Notes the op with this number, if it is a flush.
-fn note_next(
-    flushes: &mut NextFlushes,
-    format: Format,
-    op: Op,
-    number: u64,
-) -> Result<(), OutOfMemory>
-    ensures { OnOk result ((t other l : ℕ) → number_at other flushes.new l ≡ next_before (act_of format t op) number l (number_at other flushes.old l)) }
-{
-    match op {
-        Op::Clwb(addr) | Op::ClflushOpt(addr) | Op::Clflush(addr) => {
-            flushes.insert(line_of(format, addr), number)?;
-            Ok(())
-        }
-        Op::Store(_) | Op::Sfence | Op::Mfence | Op::IsPersist(_) | Op::IsOrderedBefore(_, _) => Ok(
-            (),
-        ),
     }
 }

@@ -1,13 +1,10 @@
 -- Choices of numbers for a few lines.
 use Rattle.std.proofs.Common.{◌≡◌, ℕ, zero, suc, ◌+◌, ◌-◌, ◌<◌, ◌≤◌, ◌⊎◌, ◌==◌, inl, inr, Bool, true, false, List, [], ◌∷◌, ◌++◌, length, map, refl, sym, ap, subst, ◌∙◌, arith, length-append, ltb-true, true≢false}
 use Rattle.std.specs.Prelude.{if◌then◌else◌, ◌||◌, nat_lt}
-use Rattle.std.specs.List.{AllByRecursion, flat_map}
+use Rattle.pmt_laws.specs.Prelude.{AllByRecursion, flat_map, has_line}
 use Rattle.std.proofs.lemmas.Bool.{cases_eq, eq-eqb, ne_eqb, lt-ltb}
-use Rattle.pmt_model.specs.Traces.{has_line}
 use Rattle.pmt_image.specs.declared.crash.LineStores.{LineStores}
-use Rattle.pmt_image.specs.Counts.{with_counts}
-use Rattle.pmt_image.specs.Near.{IsOffBy}
-use Rattle.pmt_image.specs.Choosing.{set_to, settings}
+use Rattle.pmt_image.specs.Crashes.{with_counts, IsOffBy, set_to, settings}
 
 -- ---- Lists
 

@@ -1,19 +1,14 @@
 -- Numbers of stores, by line.
 use Rattle.std.proofs.Common.{◌≡◌, ℕ, ◌≤◌, ◌⊎◌, ◌==◌, inl, inr, Bool, true, false, List, [], ◌∷◌, ◌++◌, map, Option, Some, None, refl, sym, ap, subst, ◌∙◌, arith, true≢false}
 use Rattle.std.specs.Prelude.{if◌then◌else◌, ◌||◌}
-use Rattle.std.specs.List.{AllByRecursion}
 use Rattle.std.proofs.lemmas.Bool.{cases_eq, eq-eqb, ne_eqb}
-use Rattle.pmt_model.specs.Machine.{Act, Stores, Flushes, Clflushes, Fences, Asserts, count, Vectors}
-use Rattle.pmt_model.specs.Traces.{Recording, history, count_at, has_line, with_line, lines_of}
-use Rattle.pmt_model.specs.Fronts.{front_at}
-use Rattle.pmt_model.specs.Boxes.{InBox}
+use Rattle.pmt_explain.specs.Prelude.{Act, Stores, Flushes, Clflushes, Fences, Asserts, count, Vectors, Recording, history, count_at, has_line, with_line, lines_of, front_at, InBox, AllByRecursion, persisted_at}
 use Rattle.pmt_laws.proofs.BoxLemmas.{box-ends}
 use Rattle.pmt_laws.proofs.Histories.{front-le-count}
 use Rattle.pmt_explain.specs.declared.lines.LineCount.{LineCount}
-use Rattle.pmt_reasons.specs.Failures.{persisted_at}
 use Rattle.pmt_explain.specs.Crashes.{line_count}
 use Rattle.pmt_image.specs.declared.crash.LineStores.{LineStores}
-use Rattle.pmt_image.specs.Counts.{with_counts, persisted_entry, stored_entry, IsBetween}
+use Rattle.pmt_image.specs.Crashes.{with_counts, persisted_entry, stored_entry, IsBetween}
 
 -- the same counts before, the same after
 pub counts-same : (xs : List LineStores) (v w : ℕ → ℕ) → ((l : ℕ) → v l ≡ w l) → (l : ℕ) → with_counts xs v l ≡ with_counts xs w l

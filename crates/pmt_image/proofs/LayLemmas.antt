@@ -4,9 +4,8 @@ use Rattle.std.specs.Prelude.{if◌then◌else◌, nat_le, nat_lt, slice_get, un
 use Rattle.std.proofs.lemmas.Bool.{cases_lt, cases_eq, le-leb, lt-ltb, and_parts, and_from}
 use Rattle.std.proofs.lemmas.List.{take_more, reverse-append}
 use Rattle.std.proofs.lemmas.Option.{slice_get-get_or}
-use Rattle.pmt_model.specs.Values.{Written}
-use Rattle.pmt_model.specs.Machine.{Image, writes, write}
-use Rattle.pmt_image.specs.Persisting.{written_by}
+use Rattle.pmt_laws.specs.Prelude.{Written, Image, writes, write}
+use Rattle.pmt_image.specs.Crashes.{written_by}
 use Rattle.pmt_image.specs.Pools.{over}
 use Rattle.pmt_image.proofs.OverLemmas.{over-from_each}
 

@@ -2,10 +2,7 @@
 use Rattle.std.proofs.Common.{◌≡◌, ℕ, zero, suc, ◌+◌, ◌-◌, ◌≤◌, ◌⊎◌, ◌==◌, inl, inr, Bool, true, false, List, ◌∷◌, length, refl, sym, ap, subst, ◌∙◌, arith, true≢false}
 use Rattle.std.specs.Prelude.{◌&&◌, ◌||◌, not, nat_le}
 use Rattle.std.proofs.lemmas.Bool.{le-leb}
-use Rattle.pmt_model.specs.Machine.{Act, Stores, Flushes, Clflushes, Fences, Asserts, Vectors, count}
-use Rattle.pmt_model.specs.Traces.{Recording, IsAct, VectorsAt, count_at, history}
-use Rattle.pmt_model.specs.Fronts.{front, front_at}
-use Rattle.pmt_model.specs.Boxes.{InBox}
+use Rattle.pmt_laws.specs.Prelude.{Act, Stores, Flushes, Clflushes, Fences, Asserts, Vectors, count, Recording, IsAct, VectorsAt, count_at, history, front, front_at, InBox}
 use Rattle.pmt_laws.proofs.Histories.{event-none, event-some, history-act, count-grows}
 use Rattle.pmt_laws.proofs.BoxLemmas.{same_fronts-vectors, vectors_are_a_box}
 use Rattle.pmt_image.specs.Listing.{is_kind, is_kind_of, stores_act, raises_act, turns, AreAlike, HaveAllCrashes}

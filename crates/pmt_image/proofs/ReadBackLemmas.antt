@@ -3,16 +3,13 @@ use Rattle.std.proofs.Common.{◌≡◌, ℕ, ◌*◌, ◌/◌, ◌^◌, ◌<◌
 use Rattle.std.specs.List.{flat_map, join_with_byte, AllByRecursion}
 use Rattle.std.proofs.lemmas.List.Splits.{join_with_byte-slice_split}
 use Rattle.pmt_text.specs.Spelling.{address, ended, numeral}
-use Rattle.pmt_text.specs.Fields.{address_in, number_in}
-use Rattle.pmt_text.specs.Judging.{fields_of}
-use Rattle.pmt_text.specs.Reading.{capped}
+use Rattle.pmt_text.specs.Judging.{address_in, number_in, fields_of, capped}
 use Rattle.pmt_text.proofs.NumeralLemmas.{AreDigits, AreDigits-numeral, number_in-numeral, no_digit-space}
 use Rattle.pmt_text.proofs.FieldLemmas.{address_in-address}
 use Rattle.pmt_text.proofs.LineLemmas.{parts, IsFree, parts-append, parts-join}
 use Rattle.pmt_text.proofs.SpelledLemmas.{free_from}
 use Rattle.pmt_image.specs.declared.crash.LineStores.{LineStores}
-use Rattle.pmt_image.specs.Listing.{all_words, crash_words, line_words}
-use Rattle.pmt_image.specs.Words.{Asks, line_word, all_arguments, line_arguments, crash_arguments, CrashesAreReadBack}
+use Rattle.pmt_image.specs.Listing.{all_words, crash_words, line_words, Asks, line_word, all_arguments, line_arguments, crash_arguments, CrashesAreReadBack}
 use Rattle.pmt_image.proofs.WordLemmas.{address-free}
 
 -- ---- Spaces

@@ -1,22 +1,18 @@
 -- The stores that a crash can lose, and their lines.
 use Rattle.std.proofs.Common.{◌≡◌, ℕ, zero, suc, ◌+◌, ◌-◌, ◌<◌, ◌≤◌, ◌⊎◌, ◌==◌, inl, inr, Bool, true, false, List, [], ◌∷◌, ◌++◌, length, map, get_or, take, reverse, Some, refl, sym, ap, ap₂, subst, ◌∙◌, arith, true≢false}
 use Rattle.std.specs.Prelude.{if◌then◌else◌, ◌||◌, nat_lt, slice_get}
-use Rattle.std.specs.List.{AllByRecursion, filter}
 use Rattle.std.proofs.lemmas.Bool.{cases_eq, cases_lt, eq-eqb, ne_eqb, lt-ltb, le-ltb, ltb-false}
 use Rattle.std.proofs.lemmas.Option.{slice_get-get_or, slice_get_within}
 use Rattle.std.proofs.lemmas.List.{get_or_append_left, get_or_push, length-append, take_more, reverse-append}
 use Rattle.std.proofs.lemmas.List.Elements.{filter-append}
-use Rattle.pmt_model.specs.Machine.{Act, Stores, Flushes, Clflushes, Fences, Asserts, count}
-use Rattle.pmt_model.specs.Traces.{Recording, IsAct, history, count_at, has_line, with_line}
-use Rattle.pmt_model.specs.Fronts.{front_at}
+use Rattle.pmt_laws.specs.Prelude.{Act, Stores, Flushes, Clflushes, Fences, Asserts, count, Recording, IsAct, history, count_at, has_line, with_line, front_at, AllByRecursion, filter}
 use Rattle.pmt_laws.proofs.Histories.{event-some, front-le-count, history-act}
 use Rattle.pmt_reasons.proofs.CauseLemmas.{rank-store}
 use Rattle.pmt_explain.specs.declared.lines.LineCount.{LineCount}
-use Rattle.pmt_explain.specs.Saving.{TellsSafe}
+use Rattle.pmt_explain.specs.Following.{TellsSafe}
 use Rattle.pmt_explain.proofs.SavingLemmas.{pending-before}
 use Rattle.pmt_image.specs.declared.spans.StoreSpan.{StoreSpan}
-use Rattle.pmt_image.specs.Spans.{AreSpans, IsSpan, line_by, lines_of_spans, span_by, stored_by, with_span}
-use Rattle.pmt_image.specs.Walking.{exposed_by}
+use Rattle.pmt_image.specs.Spans.{AreSpans, IsSpan, line_by, lines_of_spans, span_by, stored_by, with_span, exposed_by}
 use Rattle.pmt_image.proofs.CountLemmas.{added, has_line-append}
 use Rattle.pmt_image.proofs.NearLemmas.{AreNew, AreNewLines, AreOpen, IsBound, done_after, done-kept, new-with_line, or-true}
 

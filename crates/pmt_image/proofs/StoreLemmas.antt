@@ -1,18 +1,13 @@
 -- The persisted stores, event by event.
 use Rattle.std.proofs.Common.{◌≡◌, ℕ, zero, suc, ◌<◌, ◌≤◌, ◌==◌, inl, inr, Bool, true, false, List, [], ◌∷◌, Some, sym, ap, subst, ◌∙◌, arith}
 use Rattle.std.specs.Prelude.{if◌then◌else◌, slice_get}
-use Rattle.pmt_model.specs.declared.event.Event.{Event}
-use Rattle.pmt_model.specs.Values.{Layout, Written, line_of}
-use Rattle.pmt_model.specs.Machine.{Act, Stores, Flushes, Clflushes, Fences, Asserts, count}
-use Rattle.pmt_model.specs.Traces.{Recording, IsAct, act, act_of, history, count_at}
+use Rattle.pmt_laws.specs.Prelude.{Event, Layout, Written, line_of, Act, Stores, Flushes, Clflushes, Fences, Asserts, count, Recording, IsAct, act, act_of, history, count_at}
 use Rattle.pmt_laws.proofs.Histories.{history-act, history-step}
 use Rattle.pmt_image.specs.declared.pool.Pool.{Pool}
 use Rattle.pmt_image.specs.declared.persisting.StoreFault.{StoreFault}
 use Rattle.pmt_image.specs.declared.persisting.StoreFault.TheVariants.{Outside, OutOfMemory}
-use Rattle.pmt_image.specs.Counts.{Table}
-use Rattle.pmt_image.specs.Pools.{IsInside, AllInside}
-use Rattle.pmt_image.specs.Outsiders.{IsOpFault, FindsFault}
-use Rattle.pmt_image.specs.Persisting.{AreFound}
+use Rattle.pmt_image.specs.Crashes.{Table, AreFound}
+use Rattle.pmt_image.specs.Pools.{IsInside, AllInside, IsOpFault, FindsFault}
 
 -- no line has more stores than there are events
 count-step : (l : ℕ) (a : Act) (h : List Act) → count l (a ∷ h) ≤ suc (count l h)

@@ -1,20 +1,16 @@
 -- From place to place.
 use Rattle.std.proofs.Common.{◌≡◌, ℕ, ◌+◌, ◌-◌, ◌<◌, ◌≤◌, ◌⊎◌, inl, inr, Bool, true, false, List, [], ◌∷◌, ◌++◌, length, map, min, take, drop, reverse, refl, sym, ap, subst, ◌∙◌, arith}
 use Rattle.std.specs.Prelude.{if◌then◌else◌, nat_lt}
-use Rattle.std.specs.List.{AllByRecursion, filter}
 use Rattle.std.proofs.lemmas.Bool.{cases_lt, lt-ltb, le-ltb}
 use Rattle.std.proofs.lemmas.List.{take_all}
 use Rattle.std.proofs.lemmas.List.Elements.{filter-append}
 use Rattle.std.proofs.Math.Seq.{take-add}
-use Rattle.pmt_model.specs.Machine.{Act, Vectors, count}
-use Rattle.pmt_model.specs.Traces.{Recording, act, count_at, history}
-use Rattle.pmt_model.specs.Fronts.{front, front_at}
+use Rattle.pmt_laws.specs.Prelude.{Act, Vectors, count, Recording, act, count_at, history, front, front_at, AllByRecursion, filter}
 use Rattle.pmt_image.specs.declared.crash.LineStores.{LineStores}
 use Rattle.pmt_image.specs.declared.near.NearCrashes.{NearCrashes}
 use Rattle.pmt_image.specs.declared.spans.StoreSpan.{StoreSpan}
-use Rattle.pmt_image.specs.Counts.{with_counts}
-use Rattle.pmt_image.specs.Near.{IsOffBy, IsNear, AreNear, left_by_all}
-use Rattle.pmt_image.specs.Walking.{exposed_by}
+use Rattle.pmt_image.specs.Crashes.{with_counts, IsOffBy, IsNear, AreNear, left_by_all}
+use Rattle.pmt_image.specs.Spans.{exposed_by}
 
 -- what passes at a later place passed before
 filter-later : (n m : ℕ) (xs : List StoreSpan) → n ≤ m → filter (λ x. nat_lt m x.safe) (filter (λ x. nat_lt n x.safe) xs) ≡ filter (λ x. nat_lt m x.safe) xs

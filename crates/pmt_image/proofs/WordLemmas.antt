@@ -5,12 +5,11 @@ use Rattle.std.proofs.lemmas.Bool.{true≢false, eqb-true}
 use Rattle.std.proofs.lemmas.List.Sums.{fails_before_first, passes_at_first, split_at_first}
 use Rattle.std.proofs.lemmas.List.Splits.{slice_split_first, join_with_byte-slice_split}
 use Rattle.pmt_text.specs.Spelling.{address, numeral}
-use Rattle.pmt_text.specs.Fields.{address_in, number_in}
-use Rattle.pmt_text.specs.Reading.{capped, digit_of}
+use Rattle.pmt_text.specs.Judging.{address_in, number_in, capped, digit_of}
 use Rattle.pmt_text.proofs.NumeralLemmas.{AreDigits, AreDigits-numeral, number_in-numeral, numeral-number_in}
 use Rattle.pmt_text.proofs.FieldLemmas.{address_in-address, address-address_in}
 use Rattle.pmt_text.proofs.LineLemmas.{parts, IsFree, parts-append}
-use Rattle.pmt_image.specs.Words.{Asks}
+use Rattle.pmt_image.specs.Listing.{Asks}
 
 -- ---- The colon
 

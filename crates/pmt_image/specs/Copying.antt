@@ -1,17 +1,30 @@
--- What copying a pool reads and writes.
-use Rattle.std.specs.Prelude.{◌≡◌, ℕ, ◌<◌, ◌≤◌, List, length, take, Option, Result, Ok, Err}
+-- What copying a pool reads and writes, and which pools are refused.
+use Rattle.std.specs.Prelude.{ℕ, ◌≡◌, ◌<◌, ◌≤◌, List, length, take, Option, Result, Ok, Err}
 use Rattle.std.specs.Io.KnownBytes.{Keeps, Appends, Consumes, IsAtEnd}
-use Rattle.pmt_model.specs.Machine.{Image, image_of}
-use Rattle.pmt_model.specs.Traces.{Recording, history}
+use Rattle.pmt_laws.specs.Prelude.{Image, image_of, history, Recording}
 use Rattle.pmt_image.specs.declared.pool.Pool.{Pool}
-use Rattle.pmt_image.specs.declared.crash.Crash.{Crash}
-use Rattle.pmt_image.specs.declared.copying.Stop.{Stop}
-use Rattle.pmt_image.specs.declared.copying.Stop.TheVariants as stops
-use Rattle.pmt_image.specs.declared.copying.CopyFault.{CopyFault}
+use Rattle.pmt_image.specs.declared.persisting.StoreFault.{StoreFault}
 use Rattle.pmt_image.specs.declared.copying.ImageFault.{ImageFault}
 use Rattle.pmt_image.specs.declared.copying.ImageFault.TheVariants.{Outside, OutOfMemory, Copy}
+use Rattle.pmt_image.specs.Pools.{IsFirstOutside, over, IsPoolAfter}
+use Rattle.pmt_image.specs.declared.crash.Crash.{Crash}
+use Rattle.pmt_image.specs.declared.copying.Stop.{Stop}
+use Rattle.pmt_image.specs.declared.copying.CopyFault.{CopyFault}
 use Rattle.pmt_image.specs.Crashes.{persisted_by}
-use Rattle.pmt_image.specs.Pools.{over, IsFirstOutside, IsPoolAfter}
+use Rattle.pmt_image.specs.declared.persisting.StoreFault.TheVariants as stores
+use Rattle.pmt_image.specs.declared.copying.Stop.TheVariants as stops
+
+-- The fault is of the first store outside of the pool, or memory was refused.
+abbrev pub IsRefused : Recording → ℕ → Pool → ImageFault → Type 0
+IsRefused T n pool (Outside event address) = IsFirstOutside T n pool event address
+IsRefused T n pool OutOfMemory = Unit {0}
+IsRefused T n pool (Copy fault) = ⊥
+
+abbrev pub refusal_of : StoreFault → ImageFault
+refusal_of (stores.Outside event address) = Outside event address
+refusal_of stores.OutOfMemory = OutOfMemory
+
+-- ---- What copying a pool reads and writes
 
 -- These bytes, from the address on, were read, and of what they are with the image over them the first `out` bytes were written.
 pub record IsCopied (image : Image) (at : ℕ) (bytes : List ℕ) (out : ℕ) (read_old read_new out_old out_new : Option (List ℕ)) : Type 0 where

@@ -1,13 +1,5 @@
-pub mod Counts
 pub mod Crashes
-pub mod Near
-pub mod Choosing
 pub mod Spans
-pub mod Walking
 pub mod Listing
 pub mod Pools
-pub mod Persisting
-pub mod Outsiders
 pub mod Copying
-pub mod Refusing
-pub mod Words

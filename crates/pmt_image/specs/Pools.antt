@@ -1,10 +1,9 @@
--- The pool after a crash.
+-- The pool after a crash, and stores outside of it.
 use Rattle.std.specs.Prelude.{◌≡◌, ℕ, suc, ◌+◌, ◌<◌, ◌≤◌, ◌⊎◌, true, List, [], ◌∷◌, length, unwrap_or}
-use Rattle.std.specs.List.{AllByRecursion}
-use Rattle.pmt_model.specs.Values.{Written}
-use Rattle.pmt_model.specs.Machine.{Act, Stores, Flushes, Clflushes, Fences, Asserts, Image, writes, image_of}
-use Rattle.pmt_model.specs.Traces.{Recording, IsAct, history}
+use Rattle.pmt_laws.specs.Prelude.{Written, Act, Stores, Flushes, Clflushes, Fences, Asserts, Image, writes, image_of, Recording, IsAct, history, Op, Store, AllByRecursion}
 use Rattle.pmt_image.specs.declared.pool.Pool.{Pool}
+use Rattle.pmt_image.specs.declared.persisting.StoreFault.{StoreFault}
+use Rattle.pmt_image.specs.declared.persisting.StoreFault.TheVariants.{Outside, OutOfMemory}
 
 -- These bytes, the first of them at the address, with those of the image over them: each byte is what was written there, else what it was.
 abbrev pub over : Image → ℕ → List ℕ → List ℕ
@@ -39,3 +38,23 @@ pub record IsPoolAfter (T : Recording) (n : ℕ) (persisted : ℕ → ℕ) (pool
   pub whole : length base ≡ pool.size
   pub inside : AllInside pool (history T n)
   pub bytes_are : bytes ≡ over (image_of persisted (history T n)) pool.origin base
+
+-- The store writes the byte, which is none of the pool's.
+pub record IsOutsideByte (w : Written) (pool : Pool) (address : ℕ) : Type 0 where
+  pub writes_byte : writes w address ≡ true
+  pub outside : (address < pool.origin) ⊎ (pool.origin + pool.size ≤ address)
+
+-- The op is such a store, and the fault tells its number and that byte; or memory was refused.
+pub record IsOutsideOp (op : Op) (pool : Pool) (address : ℕ) : Type 0 where
+  pub what : Written
+  pub is_store : op ≡ Store what
+  pub byte : IsOutsideByte what pool address
+
+abbrev pub IsOpFault : Op → Pool → ℕ → StoreFault → Type 0
+IsOpFault op pool number (Outside event address) = (event ≡ number) × IsOutsideOp op pool address
+IsOpFault op pool number OutOfMemory = Unit {0}
+
+-- The fault is of the first such store among the first n events, or memory was refused.
+abbrev pub FindsFault : Recording → ℕ → Pool → StoreFault → Type 0
+FindsFault T n pool (Outside event address) = IsFirstOutside T n pool event address
+FindsFault T n pool OutOfMemory = Unit {0}

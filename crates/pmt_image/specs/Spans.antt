@@ -1,10 +1,10 @@
--- From when to when crashes can lose each store.
-use Rattle.std.specs.Prelude.{◌≡◌, ℕ, suc, ◌-◌, ◌==◌, if◌then◌else◌, List, [], ◌∷◌, length, Some, slice_get}
-use Rattle.pmt_model.specs.Machine.{Act, Stores, Flushes, Clflushes, Fences, Asserts}
-use Rattle.pmt_model.specs.Traces.{Recording, IsAct, count_at, with_line}
-use Rattle.pmt_explain.specs.Saving.{IsSafePlace}
+-- From when to when crashes can lose each store, found in a walk over the places.
+use Rattle.std.specs.Prelude.{◌≡◌, ℕ, suc, ◌-◌, ◌==◌, if◌then◌else◌, List, [], ◌∷◌, length, Some, slice_get, ◌≤◌, nat_lt, take}
+use Rattle.pmt_laws.specs.Prelude.{Act, Stores, Flushes, Clflushes, Fences, Asserts, Recording, IsAct, count_at, with_line, filter}
+use Rattle.pmt_explain.specs.Following.{IsSafePlace}
 use Rattle.pmt_explain.specs.declared.lines.LineCount.{LineCount}
 use Rattle.pmt_image.specs.declared.spans.StoreSpan.{StoreSpan}
+use Rattle.pmt_image.specs.declared.walk.Walk.{Walk}
 
 -- The span of event i, which is this act: a store has its line, its rank and its safe place; no crash loses another act.
 abbrev pub IsSpan : Recording → ℕ → Act → StoreSpan → Type 0
@@ -48,3 +48,17 @@ with_span x y = record { line = y.line; stores = x.rank; persisted = if y.stores
 abbrev pub line_by : List StoreSpan → ℕ → LineCount
 line_by [] l = record { line = l; stores = 0; persisted = 0 }
 line_by (x ∷ older) l = if x.line == l then with_span x (line_by older l) else line_by older l
+
+-- The stores by place n that a crash there can lose.
+abbrev pub exposed_by : List StoreSpan → ℕ → List StoreSpan
+exposed_by spans n = filter (λ x. nat_lt n x.safe) (take n spans)
+
+-- The walk has those of its place.
+pub record IsAt (w : Walk) : Type 0 where
+  pub within : w.place ≤ length w.spans.items
+  pub exposed : w.exposed.items ≡ exposed_by w.spans.items w.place
+
+-- It is a walk over this trace.
+pub record IsWalkOf (T : Recording) (w : Walk) : Type 0 where
+  pub spans : AreSpans T w.spans.items
+  pub here : IsAt w

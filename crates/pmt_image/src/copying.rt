@@ -3,11 +3,10 @@ ghost use Rattle.std.specs.Prelude.{◌≡◌, ◌+◌, ◌-◌, ◌^◌, ◌<�
 ghost use Rattle.std.specs.Io.KnownBytes.{Consumes, Keeps, IsAtEnd};
 ghost use Rattle.pmt_text.specs.Counting.{inner_device, failure_count, failed_call};
 ghost use Rattle.pmt_model.specs.Traces.{history};
-ghost use Rattle.pmt_image.specs.Persisting.{written_by};
+ghost use Rattle.pmt_image.specs.Crashes.{written_by};
 ghost use Rattle.pmt_image.specs.Pools.{AllInside};
-ghost use Rattle.pmt_image.specs.Refusing.{IsRefused, refusal_of};
+ghost use Rattle.pmt_image.specs.Copying.{IsRefused, refusal_of, Copies, CopiesPiece, WritesImage, copy_reads, copy_result, copy_writes, image_reads, image_writes};
 ghost use Rattle.pmt_image.specs.declared.copying.ImageFault.TheVariants.{OutOfMemory};
-ghost use Rattle.pmt_image.specs.Copying.{Copies, CopiesPiece, WritesImage, copy_reads, copy_result, copy_writes, image_reads, image_writes};
 
 use crate::crash::Crash;
 use crate::laying::lay_stores;

@@ -1,13 +1,9 @@
 //! How many stores of each line a crash leaves persisted.
 ghost use Rattle.std.specs.Prelude.{◌≡◌, ◌≤◌, ◌==◌, ℕ, length, map, if◌then◌else◌, nat_le, nat_lt, IfOk, IfErr, OnOk};
-ghost use Rattle.std.specs.List.{AllByRecursion};
-ghost use Rattle.pmt_model.specs.Traces.{VectorsAt, count_at, history, lines_of};
-ghost use Rattle.pmt_model.specs.Fronts.{front_at};
-ghost use Rattle.pmt_reasons.specs.Failures.{persisted_at};
+ghost use Rattle.pmt_explain.specs.Prelude.{VectorsAt, count_at, history, lines_of, front_at, AllByRecursion, persisted_at};
 ghost use Rattle.pmt_explain.specs.Crashes.{full_line, line_count};
 ghost use Rattle.pmt_image.specs.declared.crash.CountFault.TheVariants.{OutOfMemory};
-ghost use Rattle.pmt_image.specs.Counts.{count_in, with_counts, persisted_entry, stored_entry, IsBetween, IsOutside};
-ghost use Rattle.pmt_image.specs.Crashes.{asked_count, IsCountFault, persisted_by};
+ghost use Rattle.pmt_image.specs.Crashes.{count_in, with_counts, persisted_entry, stored_entry, IsBetween, IsOutside, asked_count, IsCountFault, persisted_by};
 
 use indexmap::IndexMap;
 use pmt_explain::{LineCount, crash_lines};

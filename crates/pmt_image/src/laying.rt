@@ -1,7 +1,7 @@
 //! Stores laid over the bytes that were there.
 ghost use Rattle.std.specs.Prelude.{◌≡◌, ◌+◌, ◌-◌, ◌^◌, ◌<◌, ◌≤◌, ℕ, if◌then◌else◌, length, reverse, slice_index};
 ghost use Rattle.pmt_model.specs.Machine.{writes};
-ghost use Rattle.pmt_image.specs.Persisting.{written_by};
+ghost use Rattle.pmt_image.specs.Crashes.{written_by};
 ghost use Rattle.pmt_image.specs.Pools.{over};
 
 use pmt_model::WordStore;

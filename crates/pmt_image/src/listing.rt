@@ -1,7 +1,6 @@
 //! Which crashes are listed, and how one is told.
 ghost use Rattle.std.specs.Prelude.{◌≡◌, ◌++◌, OnOk};
-ghost use Rattle.std.specs.List.{flat_map};
-ghost use Rattle.pmt_model.specs.Traces.{Recording};
+ghost use Rattle.pmt_laws.specs.Prelude.{flat_map, Recording};
 ghost use Rattle.pmt_image.specs.Listing.{all_words, crash_words, line_words, turns, is_kind, stores_act, raises_act, HaveAllCrashes};
 
 use crate::crash::LineStores;

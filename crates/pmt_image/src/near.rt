@@ -1,8 +1,7 @@
 //! The crashes at a place that are near what no crash can lose, or near all that was stored.
 ghost use Rattle.std.specs.Prelude.{◌≡◌, ◌+◌, ◌-◌, ◌<◌, ◌++◌, ◌∷◌, ℕ, true, false, [], nat_lt, length, map, IfOk, OnOk};
 ghost use Rattle.std.specs.List.{filter, flat_map};
-ghost use Rattle.pmt_image.specs.Counts.{with_counts};
-ghost use Rattle.pmt_image.specs.Choosing.{chosen, grown, fronts_off, low_of, settings};
+ghost use Rattle.pmt_image.specs.Crashes.{with_counts, chosen, grown, fronts_off, low_of, settings};
 
 use crate::crash::LineStores;
 use pmt_explain::LineCount;

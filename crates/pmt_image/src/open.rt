@@ -2,7 +2,7 @@
 ghost use Rattle.std.specs.Prelude.{◌≡◌, ◌==◌, ℕ, if◌then◌else◌, map, reverse, IfOk, OnOk};
 ghost use Rattle.indexmap.specs.IndexMap.{keys};
 ghost use Rattle.pmt_model.specs.Traces.{with_line};
-ghost use Rattle.pmt_explain.specs.Counting.{count_in};
+ghost use Rattle.pmt_explain.specs.Crashes.{count_in};
 ghost use Rattle.pmt_image.specs.Spans.{lines_of_spans, line_by, with_span};
 
 use crate::spans::StoreSpan;

@@ -1,13 +1,9 @@
 //! The stores that a crash leaves persisted.
 ghost use Rattle.std.specs.Prelude.{◌≡◌, ◌+◌, ◌^◌, ◌<◌, ◌≤◌, ℕ, ◌∷◌, List, length, true, reverse, IfOk, IfErr, IfSome, IfNone, OnOk};
-ghost use Rattle.pmt_model.specs.Machine.{Act, Stores, image_of, writes};
-ghost use Rattle.pmt_model.specs.Traces.{act_of, event_limit, history};
+ghost use Rattle.pmt_laws.specs.Prelude.{Act, Stores, image_of, writes, act_of, event_limit, history};
 ghost use Rattle.pmt_image.specs.declared.persisting.StoreFault.TheVariants.{OutOfMemory};
-ghost use Rattle.pmt_image.specs.Counts.{count_in};
-ghost use Rattle.pmt_image.specs.Crashes.{persisted_by};
-ghost use Rattle.pmt_image.specs.Pools.{AllInside, IsInside, IsFirstOutside};
-ghost use Rattle.pmt_image.specs.Persisting.{AreFound, written_by};
-ghost use Rattle.pmt_image.specs.Outsiders.{IsOutsideByte, IsOpFault, FindsFault};
+ghost use Rattle.pmt_image.specs.Crashes.{count_in, persisted_by, AreFound, written_by};
+ghost use Rattle.pmt_image.specs.Pools.{AllInside, IsInside, IsFirstOutside, IsOutsideByte, IsOpFault, FindsFault};
 
 use crate::crash::{Crash, StoresByLine, count_of, set_count};
 use crate::pool::Pool;

@@ -1,7 +1,7 @@
 //! From when to when crashes can lose each store.
 ghost use Rattle.std.specs.Prelude.{◌≡◌, ◌<◌, ℕ, IfOk, OnOk};
 ghost use Rattle.pmt_model.specs.Traces.{act_of, event_limit};
-ghost use Rattle.pmt_image.specs.Counts.{count_in};
+ghost use Rattle.pmt_image.specs.Crashes.{count_in};
 ghost use Rattle.pmt_image.specs.Spans.{AreSpans, span_by, stored_by};
 
 use crate::crash::{StoresByLine, count_of, set_count};

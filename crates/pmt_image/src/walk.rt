@@ -1,9 +1,8 @@
 //! The crashes near each of some places.
 ghost use Rattle.std.specs.Prelude.{◌≡◌, ◌≤◌, ◌++◌, ℕ, min, nat_lt, length, IfOk, OnOk};
-ghost use Rattle.std.specs.List.{filter};
-ghost use Rattle.pmt_model.specs.Traces.{Recording};
-ghost use Rattle.pmt_image.specs.Near.{AreNear, left_by_all};
-ghost use Rattle.pmt_image.specs.Walking.{IsAt, IsWalkOf};
+ghost use Rattle.pmt_laws.specs.Prelude.{filter, Recording};
+ghost use Rattle.pmt_image.specs.Crashes.{AreNear, left_by_all};
+ghost use Rattle.pmt_image.specs.Spans.{IsAt, IsWalkOf};
 
 use crate::near::{NearCrashes, near_choices};
 use crate::open::open_lines;

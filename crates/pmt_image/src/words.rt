@@ -1,6 +1,6 @@
 //! The words by which `image` is asked for a crash.
 ghost use Rattle.std.specs.Prelude.{ℕ, MatchOption};
-ghost use Rattle.pmt_image.specs.Words.{Asks, CrashesAreReadBack};
+ghost use Rattle.pmt_image.specs.Listing.{Asks, CrashesAreReadBack};
 
 use pmt_model::Addr;
 use pmt_text::number::{read_address, read_number};

@@ -1,14 +1,11 @@
 -- The sum of the first digits, each by what it counts.
-use Rattle.std.proofs.Common.{◌≡◌, ℕ, zero, suc, ◌+◌, ◌-◌, ◌*◌, ◌%◌, ◌<◌, ◌≤◌, true, List, [], ◌∷◌, ◌++◌, length, get_or, take, replicate, ◌∙◌, arith}
+use Rattle.std.proofs.Common.{◌≡◌, ℕ, zero, suc, ◌+◌, ◌-◌, ◌*◌, ◌%◌, ◌<◌, ◌≤◌, true, List, [], ◌∷◌, ◌++◌, length, get_or, take, replicate, arith}
 use Rattle.std.proofs.lemmas.Bool.Decides.{nat_tests}
 use Rattle.std.specs.Char.{digit_value, is_ascii_digit}
 use Rattle.std.specs.Str.Parse.{digits_value}
 use lib.Lanes.{fold_l, pick_l, zip2}
 use Rattle.pmt_lanes.specs.declared.decimal.TheConstants.{WORTH}
 use Rattle.pmt_lanes.proofs.DigitLemmas.{written_out}
-
-abbrev lane : ℕ → ℕ
-lane c = (c + 208) % 256
 
 low : (c : ℕ) → is_ascii_digit c ≡ true → digit_value c < 10
 low c h = grind (arith, nat_tests)

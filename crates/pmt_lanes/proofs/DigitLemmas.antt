@@ -13,8 +13,7 @@ use Rattle.std.specs.List.{prefix_len, range_with_len}
 use Rattle.std.specs.Str.Parse.{digits_value}
 use Rattle.std.proofs.Math.Nat.{pow-zero, sub-zero, div-div-eq-div-mul}
 use lib.Lanes.{number_l, digits_l}
-use Rattle.pmt_lanes.specs.Digits.{is_hex_digit, paired}
-use Rattle.pmt_lanes.specs.Lanes.{joined, nibble}
+use Rattle.pmt_lanes.specs.Digits.{is_hex_digit, paired, joined, nibble}
 
 -- ---- A list of n numbers, written out
 

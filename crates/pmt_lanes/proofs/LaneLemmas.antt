@@ -1,5 +1,5 @@
 -- Lanes that are computed one by one from a list of bytes.
-use Rattle.std.proofs.Common.{◌≡◌, ℕ, zero, suc, ◌+◌, ◌%◌, ◌^◌, ◌<◌, ◌≤◌, eqb, Bool, true, false, not, cond, List, [], ◌∷◌, ◌++◌, map, length, replicate, Fits, w8, refl, sym, ◌∙◌, ap, ap₂, subst, arith, pow-suc, eqb-true}
+use Rattle.std.proofs.Common.{◌≡◌, ℕ, zero, suc, ◌+◌, ◌%◌, ◌^◌, ◌<◌, eqb, Bool, true, false, not, cond, List, [], ◌∷◌, ◌++◌, map, length, replicate, Fits, w8, refl, sym, ◌∙◌, ap, ap₂, subst, arith, pow-suc, eqb-true}
 use Rattle.std.proofs.lemmas.Bool.{agree_below, agree_below_at}
 use Rattle.std.proofs.lemmas.List.{length-map, map-append, length-append}
 use Rattle.std.proofs.lemmas.Simd.{map-map, mask_l-mod, mask_l-lt, trailing_mask_l}

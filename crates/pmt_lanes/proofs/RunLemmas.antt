@@ -1,5 +1,5 @@
 -- The run of digits at the front of a text, and in the first bytes of it.
-use Rattle.std.proofs.Common.{◌≡◌, ℕ, zero, suc, ◌+◌, min, Bool, true, false, true≢false, cond, List, [], ◌∷◌, take, refl, sym, arith}
+use Rattle.std.proofs.Common.{◌≡◌, ℕ, suc, ◌+◌, min, Bool, true, false, true≢false, cond, List, ◌∷◌, take, refl, sym, arith}
 use Rattle.std.specs.List.{prefix_len}
 
 step : (b : Bool) (n m r : ℕ) → m ≡ min n r → cond b (1 + m) 0 ≡ min (suc n) (cond b (1 + r) 0)

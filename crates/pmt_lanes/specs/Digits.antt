@@ -1,5 +1,5 @@
--- What stands at the front of a text.
-use Rattle.std.specs.Prelude.{◌≡◌, ℕ, ◌+◌, ◌*◌, ◌≤◌, Bool, ◌||◌, List, [], ◌∷◌, get_or}
+-- What stands at the front of a text, and what the lanes of one load hold of it.
+use Rattle.std.specs.Prelude.{◌≡◌, ℕ, ◌+◌, ◌*◌, ◌≤◌, Bool, ◌||◌, List, [], ◌∷◌, get_or, ◌-◌, ◌%◌, if◌then◌else◌}
 use Rattle.std.specs.Char.{digit_value, is_ascii_digit}
 use Rattle.std.specs.Int.{is_in_range}
 use Rattle.std.specs.List.{prefix_len}
@@ -18,3 +18,13 @@ abbrev pub paired : List ℕ → List ℕ
 paired [] = []
 paired (x ∷ []) = []
 paired (x ∷ y ∷ rest) = (16 * digit_value x + digit_value y) ∷ paired rest
+
+-- the value of a digit of base 16, and some number below 16 for any other byte
+abbrev pub nibble : ℕ → ℕ
+nibble c = if is_in_range 97 102 c then c - 87 else c % 16
+
+-- two digits of base 16 in one byte
+abbrev pub joined : List ℕ → List ℕ
+joined [] = []
+joined (x ∷ []) = []
+joined (x ∷ y ∷ rest) = (16 * x + y) ∷ joined rest

@@ -4,8 +4,7 @@ ghost use Rattle.std.specs.Int.{to_le_bytes, w64};
 ghost use Rattle.std.specs.Int.Digits.{AllBelowBase};
 ghost use Rattle.std.specs.List.{prefix_len};
 ghost use Rattle.std.specs.Str.Parse.{digits_value};
-ghost use Rattle.pmt_lanes.specs.Digits.{is_hex_digit, paired, IsNumberFirst};
-ghost use Rattle.pmt_lanes.specs.Lanes.{joined, nibble};
+ghost use Rattle.pmt_lanes.specs.Digits.{is_hex_digit, paired, IsNumberFirst, joined, nibble};
 
 use crate::runs::{LANES, hex_run};
 use std::simd::prelude::*;

@@ -1,12 +1,8 @@
 -- A list in order is known by its members, so a trace has one list of findings, and one of verdicts.
 use Rattle.std.proofs.Common.{◌≡◌, ℕ, ◌<◌, ◌↔◌, inl, inr, ◌⊎◌, List, [], ◌∷◌, refl, sym, ◌∙◌, ap₂, subst, arith}
 use Rattle.std.proofs.lemmas.Bool.Decides.{nat_tests}
-use Rattle.pmt_model.specs.declared.finding.Finding.{Finding}
-use Rattle.pmt_model.specs.declared.finding.Finding.TheVariants.{Overwritten, NeverPersisted}
-use Rattle.pmt_model.specs.declared.finding.Verdict.{Verdict}
-use Rattle.pmt_model.specs.Traces.{Recording}
-use Rattle.pmt_model.specs.Analyses.{ComesFirst, IsReportedBefore, InReportOrder, HasFinding, IsFindings, HasVerdict, InEventOrder, IsVerdicts}
-use Rattle.pmt_laws.specs.OneAnalysis.{AnalysisIsUnique}
+use Rattle.pmt_laws.specs.Prelude.{Finding, Overwritten, NeverPersisted, Verdict, Recording, ComesFirst, IsReportedBefore, InReportOrder, HasFinding, IsFindings, HasVerdict, InEventOrder, IsVerdicts}
+use Rattle.pmt_laws.specs.ModelLaws.{AnalysisIsUnique}
 use Rattle.pmt_laws.proofs.KeepLemmas.{keep_is_unique}
 
 -- ---- Lists in order

@@ -2,10 +2,7 @@
 use Rattle.std.proofs.Common.{◌≡◌, ℕ, ◌≤◌, ◌==◌, true, false, if◌then◌else◌, List, [], ◌∷◌, ◌++◌, Option, Some, None, IfSome, IsSomeAnd, inl, inr, refl, sym, ◌∙◌, ap, subst, le_trans, le_of_eq, arith}
 use Rattle.std.proofs.lemmas.Option.{IfSome_then}
 use Rattle.std.proofs.lemmas.Bool.Decides.{eqb_tells, nat_tests}
-use Rattle.pmt_model.specs.Machine.{Act, Stores, Clflushes, Fences, count, writes, State, Ends, IsMoment}
-use Rattle.pmt_model.specs.Fronts.{front}
-use Rattle.pmt_model.specs.Boxes.{InBox}
-use Rattle.pmt_model.specs.Assertions.{Placed, last_store, IsPersisted, InSpan, PersistPasses, OrderedPasses, up_to_last, NoLater}
+use Rattle.pmt_laws.specs.Prelude.{Act, Stores, Clflushes, Fences, count, writes, State, Ends, IsMoment, front, InBox, Placed, last_store, IsPersisted, InSpan, PersistPasses, OrderedPasses, up_to_last, NoLater}
 use Rattle.pmt_laws.specs.ModelLaws.{PersistByFronts, OrderedByFronts}
 use Rattle.pmt_laws.proofs.Histories.{count-grows, front-le-count, front-grows}
 use Rattle.pmt_laws.proofs.BoxLemmas.{box-ends, ends-box, leads-box, count-store}

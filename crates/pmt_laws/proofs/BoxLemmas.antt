@@ -2,10 +2,8 @@
 use Rattle.std.proofs.Common.{◌≡◌, ℕ, suc, ◌<◌, ◌≤◌, min, inl, inr, List, [], ◌∷◌, ◌==◌, refl, sym, ap, subst, subst₂, ◌↔◌, ◌∙◌, eq-eqb, eqb-true, ne_eqb, le_trans, arith}
 use Rattle.std.proofs.lemmas.Bool.{cond_both, cond-true, cond-false, cases_lt, cases_eq}
 use Rattle.std.proofs.lemmas.Bool.Decides.{nat_tests}
-use Rattle.pmt_model.specs.Values.{Written}
+use Rattle.pmt_laws.specs.Prelude.{Written, mark, front, InBox}
 use Rattle.pmt_model.specs.Machine.{Act, Stores, Flushes, Clflushes, Fences, State, Allows, Leads, Stays, Acts, Persists, Ends, Vectors, count, start, after, after_persist, outstanding_after}
-use Rattle.pmt_model.specs.Fronts.{mark, front}
-use Rattle.pmt_model.specs.Boxes.{InBox}
 use Rattle.pmt_laws.specs.ModelLaws.{VectorsAreABox}
 use Rattle.pmt_laws.proofs.Histories.{mark-le-count, count-grows, front-grows}
 use Rattle.pmt_laws.proofs.OutstandingFlushes.{owing, OwesAtMost, mark-le_owed, owed_from_marks}

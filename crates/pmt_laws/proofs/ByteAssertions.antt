@@ -1,11 +1,7 @@
 -- Assertions on single bytes, and the kept numbers that are computed.
 use Rattle.std.proofs.Common.{◌≡◌, ℕ, ◌+◌, ◌<◌, ◌≤◌, List, IfSome, subst, arith}
 use Rattle.std.proofs.lemmas.Option.{IfSome_then}
-use Rattle.pmt_model.specs.Machine.{Act}
-use Rattle.pmt_model.specs.Traces.{Recording}
-use Rattle.pmt_model.specs.Fronts.{front}
-use Rattle.pmt_model.specs.Keeping.{IsKeep}
-use Rattle.pmt_model.specs.Assertions.{Placed, last_store, InSpan, PersistPasses, OrderedPasses, up_to_last, NoLater}
+use Rattle.pmt_laws.specs.Prelude.{Act, Recording, front, IsKeep, Placed, last_store, InSpan, PersistPasses, OrderedPasses, up_to_last, NoLater}
 use Rattle.pmt_laws.specs.Worked.{byte_at, KeepsJust}
 use Rattle.pmt_laws.proofs.KeepLemmas.{keep_is_unique}
 use Rattle.pmt_laws.proofs.AssertLemmas.{persist_by_fronts, ordered_by_fronts}

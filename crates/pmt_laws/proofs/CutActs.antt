@@ -1,8 +1,6 @@
 -- Acts of a cut trace and the acts that they come from, in the same order.
 use Rattle.std.proofs.Common.{◌≡◌, ℕ, zero, suc, ◌<◌, List, sym, ap, ◌∙◌, lt_of_not-le, arith}
-use Rattle.pmt_model.specs.Machine.{Act}
-use Rattle.pmt_model.specs.Traces.{Recording, IsAct, count_at}
-use Rattle.pmt_model.specs.Selections.{Has, IsSelection, cut, matching_place}
+use Rattle.pmt_laws.specs.Prelude.{Act, Recording, IsAct, count_at, Has, IsSelection, cut, matching_place}
 use Rattle.pmt_laws.proofs.CutLemmas.{place-kept, place-mono, cut-from, count-cut}
 use Rattle.pmt_laws.proofs.Histories.{act-within}
 

@@ -2,10 +2,7 @@
 use Rattle.std.proofs.Common.{◌≡◌, ℕ, zero, suc, ◌<◌, ◌≤◌, ◌⊎◌, ◌==◌, false, if◌then◌else◌, List, [], ◌∷◌, length, Some, slice_get, filter_map, refl, sym, ◌∙◌, ap, inl, inr, arith}
 use Rattle.std.proofs.lemmas.Bool.{le-leb, lt-leb, cases_eq, cases_lt, false_from_ne_true, true≢false}
 use Rattle.std.proofs.lemmas.Bool.Decides.{nat_tests}
-use Rattle.pmt_model.specs.declared.event.Event.{Event}
-use Rattle.pmt_model.specs.Machine.{Act, Stores, Asserts, count}
-use Rattle.pmt_model.specs.Traces.{Recording, event, IsAct, history, count_at}
-use Rattle.pmt_model.specs.Selections.{IsRising, Has, always_stays, IsSelection, cut, matching_place}
+use Rattle.pmt_laws.specs.Prelude.{Event, Act, Stores, Asserts, count, Recording, event, IsAct, history, count_at, IsRising, Has, always_stays, IsSelection, cut, matching_place}
 use Rattle.pmt_laws.proofs.Histories.{event-some, history-act, history-step}
 
 -- A number stands in the list or not.

@@ -2,13 +2,9 @@
 use Rattle.std.proofs.Common.{◌≡◌, ℕ, zero, suc, ◌-◌, ◌<◌, ◌≤◌, ◌⊎◌, inl, inr, List, [], ◌∷◌, ◌++◌, length, map, reverse, slice_get, refl, sym, ap, subst, ◌∙◌, true≢false, arith}
 use Rattle.std.proofs.lemmas.Bool.{cases_eq, cases_lt}
 use Rattle.std.proofs.lemmas.List.{take-append-le, length-append}
-use Rattle.pmt_model.specs.declared.event.Event.{Event}
-use Rattle.pmt_model.specs.Machine.{Act, Flushes, Clflushes, Fences}
-use Rattle.pmt_model.specs.Traces.{Recording, act, event, IsAct, history}
-use Rattle.pmt_model.specs.Selections.{always_stays}
+use Rattle.pmt_laws.specs.Prelude.{Event, Act, Flushes, Clflushes, Fences, Recording, act, event, IsAct, history, always_stays, with_events}
 use Rattle.pmt_model.specs.Keeping.{IsUsefulFlush, IsKept, Stays, ByFence, ByFlush, ByClflush}
 use Rattle.pmt_laws.proofs.Histories.{act-within, act-unique, history-step}
-use Rattle.pmt_model.specs.Pushing.{with_events}
 use Rattle.pmt_laws.specs.Passing.{IsOpenFlush, IsDecided, DecidedStays, DecidedOrOpen, OpenIsDropped}
 
 -- the events of a list stay where more follow

@@ -2,11 +2,7 @@
 use Rattle.std.proofs.Common.{◌≡◌, ℕ, zero, suc, ◌≤◌, nat_lt, ◌-◌, false, if◌then◌else◌, List, ◌∷◌, slice_get, refl, sym, ◌∙◌, ap, subst, arith}
 use Rattle.std.proofs.lemmas.Bool.{true≢false}
 use Rattle.std.proofs.lemmas.Bool.Decides.{nat_tests}
-use Rattle.pmt_model.specs.Machine.{Act, Stores, Asserts, count, writes, image_of, Image, Crash, Vectors}
-use Rattle.pmt_model.specs.Traces.{Recording, history}
-use Rattle.pmt_model.specs.Fronts.{front}
-use Rattle.pmt_model.specs.Boxes.{InBox}
-use Rattle.pmt_model.specs.Selections.{always_stays, IsSelection, cut, matching_place}
+use Rattle.pmt_laws.specs.Prelude.{Act, Stores, Asserts, count, writes, image_of, Image, Crash, Vectors, Recording, history, front, InBox, always_stays, IsSelection, cut, matching_place}
 use Rattle.pmt_laws.specs.ModelLaws.{VectorsAreABox, FrontsDecide}
 use Rattle.pmt_laws.proofs.CutLemmas.{next-step, history-zero, count-cut}
 

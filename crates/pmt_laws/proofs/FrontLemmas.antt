@@ -2,9 +2,7 @@
 use Rattle.std.proofs.Common.{◌≡◌, ℕ, zero, suc, ◌<◌, ◌≤◌, max, ◌⊎◌, inl, inr, ◌∷◌, ◌&&◌, ◌==◌, refl, sym, ap, subst, subst₂, ◌∙◌, eqb-true, arith}
 use Rattle.std.proofs.lemmas.Bool.{cond_both, cases_lt, and_parts}
 use Rattle.std.proofs.lemmas.Option.{none-some}
-use Rattle.pmt_model.specs.Machine.{Act, Flushes, Clflushes, Fences, count}
-use Rattle.pmt_model.specs.Traces.{Recording, IsAct, history, count_at}
-use Rattle.pmt_model.specs.Fronts.{IsCompleted, mark, front, front_at}
+use Rattle.pmt_laws.specs.Prelude.{Act, Flushes, Clflushes, Fences, count, Recording, IsAct, history, count_at, IsCompleted, mark, front, front_at}
 use Rattle.pmt_laws.specs.ModelLaws.{FrontsAreGreatest}
 use Rattle.pmt_laws.proofs.Histories.{history-act, history-step, front-mono, mono-from_grows}
 use Rattle.pmt_laws.proofs.OutstandingFlushes.{mark-flush, mark-grows}

@@ -4,10 +4,7 @@ use Rattle.std.specs.Prelude.{slice_get, if◌then◌else◌, ◌==◌, ◌&&◌
 use Rattle.std.proofs.Math.Seq.{take-suc}
 use Rattle.std.proofs.lemmas.List.{reverse-append, map-append, length-reverse, length-map, length-take, take_all}
 use Rattle.std.proofs.lemmas.Option.{slice_get_within, slice_get_past, get_or_from_slice_get, none-some, same_Some}
-use Rattle.pmt_model.specs.declared.event.Event.{Event}
-use Rattle.pmt_model.specs.Machine.{Act, Stores, Flushes, Clflushes, Fences, count}
-use Rattle.pmt_model.specs.Traces.{Recording, act, event, IsAct, history, count_at}
-use Rattle.pmt_model.specs.Fronts.{mark, front, front_at}
+use Rattle.pmt_laws.specs.Prelude.{Event, Act, Stores, Flushes, Clflushes, Fences, count, Recording, act, event, IsAct, history, count_at, mark, front, front_at}
 
 -- one more element, newest first
 newest-first : {A B : Type 0} (f : A → B) (xs : List A) (n : ℕ) (x : A) → slice_get xs n ≡ Some x → reverse (map f (take (suc n) xs)) ≡ f x ∷ reverse (map f (take n xs))

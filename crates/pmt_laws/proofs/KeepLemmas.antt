@@ -2,10 +2,7 @@
 use Rattle.std.proofs.Common.{◌≡◌, ℕ, zero, suc, ◌-◌, ◌<◌, ◌≤◌, ◌⊎◌, ◌==◌, ◌&&◌, Bool, true, false, if◌then◌else◌, List, [], ◌∷◌, length, refl, sym, ◌∙◌, ap, ap₂, subst, inl, inr, ⊎_elim, arith}
 use Rattle.std.proofs.lemmas.Bool.{cases_eq, cases_lt, cond-false, ne_eqb}
 use Rattle.std.proofs.lemmas.Bool.Decides.{nat_tests}
-use Rattle.pmt_model.specs.Machine.{Act, Flushes, Clflushes, Fences, count}
-use Rattle.pmt_model.specs.Traces.{Recording, IsAct, history, count_at}
-use Rattle.pmt_model.specs.Fronts.{front, mark, front_at}
-use Rattle.pmt_model.specs.Selections.{IsRising, Has, IsSelection, cut, matching_place}
+use Rattle.pmt_laws.specs.Prelude.{Act, Flushes, Clflushes, Fences, count, Recording, IsAct, history, count_at, front, mark, front_at, IsRising, Has, IsSelection, cut, matching_place}
 use Rattle.pmt_model.specs.Keeping.{IsUsefulFlush, IsKept, Stays, ByFence, ByFlush, ByClflush, IsKeep}
 use Rattle.pmt_laws.specs.ModelLaws.{VectorsAreABox, KeepIsUnique, KeepIsFaithful}
 use Rattle.pmt_laws.proofs.Histories.{act-within, history-act, front-grows, front-mono}

@@ -2,9 +2,7 @@
 use Rattle.std.proofs.Common.{◌≡◌, ℕ, zero, suc, ◌<◌, ◌≤◌, ◌⊎◌, List, ◌∷◌, length, refl, sym, ◌∙◌, ap, subst, inl, inr, ⊎_elim, arith}
 use Rattle.std.proofs.lemmas.Bool.{cases_eq, cases_lt, cases_Bool, eqb-true, and_parts, cond-false}
 use Rattle.std.proofs.lemmas.Bool.Decides.{nat_tests}
-use Rattle.pmt_model.specs.Machine.{Act, Flushes, count}
-use Rattle.pmt_model.specs.Traces.{Recording, IsAct, history, count_at}
-use Rattle.pmt_model.specs.Fronts.{mark}
+use Rattle.pmt_laws.specs.Prelude.{Act, Flushes, count, Recording, IsAct, history, count_at, mark}
 use Rattle.pmt_laws.proofs.Histories.{act-within, act-unique, history-act, history-step}
 use Rattle.pmt_laws.proofs.OutstandingFlushes.{mark-flush}
 

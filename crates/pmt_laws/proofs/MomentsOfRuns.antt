@@ -1,10 +1,9 @@
 -- The moments of the runs of a history: they are the states of the runs of the histories that it goes on from.
 use Rattle.std.proofs.Common.{◌≡◌, ℕ, zero, suc, ◌+◌, ◌-◌, ◌<◌, ◌≤◌, ◌==◌, List, [], ◌∷◌, ◌++◌, refl, sym, ap, subst, ◌∙◌, le_trans, arith}
-use Rattle.std.specs.List.{AllByRecursion}
+use Rattle.pmt_laws.specs.Prelude.{AllByRecursion, InBox}
 use Rattle.std.proofs.lemmas.Bool.{cond_both}
 use Rattle.std.proofs.lemmas.Bool.Decides.{nat_tests}
 use Rattle.pmt_model.specs.Machine.{Act, Stores, Flushes, Clflushes, Fences, Outstanding, State, Leads, Stays, Acts, Persists, IsMoment, count, start, after, after_persist}
-use Rattle.pmt_model.specs.Boxes.{InBox}
 use Rattle.pmt_laws.proofs.Histories.{count-grows}
 use Rattle.pmt_laws.proofs.OutstandingFlushes.{owing}
 use Rattle.pmt_laws.proofs.BoxLemmas.{leads-reached, leads-box, box-ends, persisted-step}

@@ -1,11 +1,7 @@
 -- A useful flush, by its thread and line, and the fence that needs it.
 use Rattle.std.proofs.Common.{ℕ, zero, suc, ◌-◌, ◌<◌, List, arith}
 use Rattle.std.proofs.lemmas.Bool.Decides.{nat_tests}
-use Rattle.pmt_model.specs.Machine.{Flushes, Fences}
-use Rattle.pmt_model.specs.Traces.{Recording, IsAct, count_at}
-use Rattle.pmt_model.specs.Fronts.{front_at}
-use Rattle.pmt_model.specs.Selections.{Has}
-use Rattle.pmt_model.specs.Keeping.{IsUsefulFlush, IsKept, IsKeep}
+use Rattle.pmt_laws.specs.Prelude.{Flushes, Fences, Recording, IsAct, count_at, front_at, Has, IsUsefulFlush, IsKept, IsKeep}
 use Rattle.pmt_laws.proofs.Histories.{act-unique}
 use Rattle.pmt_laws.proofs.KeepLemmas.{front-at_fence, raising-is-kept}
 

@@ -1,8 +1,6 @@
 -- Stores that are never persisted, by the fronts.
 use Rattle.std.proofs.Common.{◌<◌, length, arith}
-use Rattle.pmt_model.specs.Traces.{history, count_at}
-use Rattle.pmt_model.specs.Fronts.{front_at}
-use Rattle.pmt_model.specs.Findings.{IsNeverPersisted}
+use Rattle.pmt_laws.specs.Prelude.{history, count_at, front_at, IsNeverPersisted}
 use Rattle.pmt_laws.specs.ModelLaws.{NeverPersistedByFronts}
 use Rattle.pmt_laws.proofs.AssertLemmas.{least_end, front-le-persisted}
 

@@ -1,11 +1,7 @@
 -- Where the count of a line is above its front, the last store to it is not safe.
 use Rattle.std.proofs.Common.{◌≡◌, ℕ, zero, suc, ◌<◌, ◌≤◌, ◌⊎◌, inl, inr, Bool, true, false, ◌∷◌, length, refl, sym, ap, subst, ◌∙◌, arith, eqb-true}
 use Rattle.std.specs.Prelude.{if◌then◌else◌, ◌==◌}
-use Rattle.pmt_model.specs.Values.{Written}
-use Rattle.pmt_model.specs.Machine.{Act, Stores, count}
-use Rattle.pmt_model.specs.Traces.{Recording, IsAct, history, count_at}
-use Rattle.pmt_model.specs.Fronts.{front_at}
-use Rattle.pmt_model.specs.Findings.{IsSafe}
+use Rattle.pmt_laws.specs.Prelude.{Written, Act, Stores, count, Recording, IsAct, history, count_at, front_at, IsSafe}
 use Rattle.pmt_laws.proofs.Histories.{history-act, history-step}
 use Rattle.pmt_laws.proofs.SameFronts.{fronts-are-vectors}
 use Rattle.pmt_laws.proofs.BoxLemmas.{count-store}

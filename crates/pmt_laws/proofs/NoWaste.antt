@@ -1,13 +1,8 @@
 -- A trimmed trace has no redundant flush and no fence without flush.
 use Rattle.std.proofs.Common.{◌≡◌, ◌≢◌, ℕ, zero, suc, ◌-◌, ◌<◌, ◌≤◌, max, ◌⊎◌, inl, inr, List, sym, ap, subst, ◌∙◌, arith, true≢false, ⊎_elim}
 use Rattle.std.proofs.lemmas.Bool.{cases_lt, cases_eq}
-use Rattle.pmt_model.specs.Machine.{Flushes, Clflushes, Fences, Stores, count}
-use Rattle.pmt_model.specs.Values.{Written}
-use Rattle.pmt_model.specs.Traces.{Recording, IsAct, history, count_at}
-use Rattle.pmt_model.specs.Fronts.{front, mark, front_at}
-use Rattle.pmt_model.specs.Selections.{Has, IsSelection, always_stays, cut, matching_place}
+use Rattle.pmt_laws.specs.Prelude.{Flushes, Clflushes, Fences, Stores, count, Written, Recording, IsAct, history, count_at, front, mark, front_at, Has, IsSelection, always_stays, cut, matching_place, IsSafe, IsCovered, IsRedundantFlush, IsRedundantClflush, IsEmptyFence}
 use Rattle.pmt_model.specs.Keeping.{IsKept, Stays, ByFence, ByFlush, ByClflush, IsKeep}
-use Rattle.pmt_model.specs.Findings.{IsSafe, IsCovered, IsRedundantFlush, IsRedundantClflush, IsEmptyFence}
 use Rattle.pmt_laws.specs.ModelLaws.{TrimmedHasNoWaste}
 use Rattle.pmt_laws.proofs.Histories.{act-unique, history-act, front-le-count, front-mono}
 use Rattle.pmt_laws.proofs.BoxLemmas.{front-flush_now}

@@ -1,10 +1,8 @@
 -- What is outstanding after a history, against its marks and counts.
 use Rattle.std.proofs.Common.{◌≡◌, ℕ, ◌≤◌, List, [], ◌∷◌, ◌&&◌, ◌==◌, refl, subst, eq-eqb, le_trans, arith}
-use Rattle.std.specs.List.{AllByRecursion}
 use Rattle.std.proofs.lemmas.Bool.{cond_both, and_parts, and_from, cond-true}
 use Rattle.std.proofs.lemmas.Bool.Decides.{nat_tests}
-use Rattle.pmt_model.specs.Machine.{Act, Flushes, Outstanding, count}
-use Rattle.pmt_model.specs.Fronts.{mark}
+use Rattle.pmt_laws.specs.Prelude.{Act, Flushes, Outstanding, count, mark, AllByRecursion}
 use Rattle.pmt_laws.proofs.Histories.{mark-le-count}
 
 -- every flush of a history, the newest first, with the stores that it marked

@@ -2,10 +2,7 @@
 use Rattle.std.proofs.Common.{◌≡◌, ◌≢◌, ℕ, zero, suc, ◌-◌, ◌<◌, ◌≤◌, ◌⊎◌, inl, inr, ◌==◌, Bool, true, false, List, ◌∷◌, length, Option, Some, None, refl, sym, ap, subst, ◌∙◌, arith, eqb-true}
 use Rattle.std.proofs.lemmas.Bool.{true≢false, cases_order, eqb-false}
 use Rattle.std.specs.Prelude.{if◌then◌else◌}
-use Rattle.pmt_model.specs.Values.{Written}
-use Rattle.pmt_model.specs.Machine.{Act, Stores, Flushes, Clflushes, writes}
-use Rattle.pmt_model.specs.Traces.{Recording, IsAct, history}
-use Rattle.pmt_model.specs.Findings.{IsFlushOf, ByFlush, ByClflush, IsOverwritten, OverwritesBefore, last_store_number, last_flush}
+use Rattle.pmt_laws.specs.Prelude.{Written, Act, Stores, Flushes, Clflushes, writes, Recording, IsAct, history, IsFlushOf, ByFlush, ByClflush, IsOverwritten, OverwritesBefore, last_store_number, last_flush}
 use Rattle.pmt_laws.specs.ModelLaws.{OverwrittenByNumbers}
 use Rattle.pmt_laws.proofs.Histories.{act-unique, act-within, history-act, history-step, length-history}
 

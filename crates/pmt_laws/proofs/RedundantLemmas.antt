@@ -3,11 +3,7 @@ use Rattle.std.proofs.Common.{◌≡◌, ◌≢◌, ℕ, zero, suc, ◌-◌, ◌
 use Rattle.std.proofs.lemmas.Bool.{true≢false, cases_order, cases_lt, eqb-false, and_parts, and_from}
 use Rattle.std.specs.Prelude.{if◌then◌else◌}
 use Rattle.std.proofs.lemmas.Bool.Decides.{nat_tests}
-use Rattle.pmt_model.specs.Values.{Written}
-use Rattle.pmt_model.specs.Machine.{Act, Stores, Flushes, Clflushes, Fences, count}
-use Rattle.pmt_model.specs.Traces.{Recording, IsAct, history, count_at}
-use Rattle.pmt_model.specs.Fronts.{front, front_at, open_mark}
-use Rattle.pmt_model.specs.Findings.{IsSafe, IsCovered, IsRedundantFlush, IsRedundantClflush}
+use Rattle.pmt_laws.specs.Prelude.{Written, Act, Stores, Flushes, Clflushes, Fences, count, Recording, IsAct, history, count_at, front, front_at, open_mark, IsSafe, IsCovered, IsRedundantFlush, IsRedundantClflush}
 use Rattle.pmt_laws.specs.ModelLaws.{RedundantFlushByFronts, RedundantClflushByFronts}
 use Rattle.pmt_laws.proofs.Histories.{act-unique, act-within, history-act, history-step, count-mono, front-le-count}
 use Rattle.pmt_laws.proofs.BoxLemmas.{vectors_are_a_box}

@@ -1,10 +1,6 @@
 -- Equal counts of persisted stores make equal fronts, since the fronts are the least of them.
 use Rattle.std.proofs.Common.{◌≡◌, ◌≢◌, ℕ, zero, suc, ◌-◌, ◌≤◌, ◌↔◌, ◌⊎◌, inl, inr, List, length, sym, ap, ◌∙◌, arith, le_antisymm}
-use Rattle.pmt_model.specs.Machine.{Act, Vectors}
-use Rattle.pmt_model.specs.Traces.{Recording, IsAct, history}
-use Rattle.pmt_model.specs.Fronts.{front, front_at}
-use Rattle.pmt_model.specs.Selections.{Has, cut, matching_place}
-use Rattle.pmt_model.specs.Shortest.{HasSameVectors}
+use Rattle.pmt_laws.specs.Prelude.{Act, Vectors, Recording, IsAct, history, front, front_at, Has, cut, matching_place, HasSameVectors}
 use Rattle.pmt_laws.proofs.Histories.{front-le-count, act-within}
 use Rattle.pmt_laws.proofs.BoxLemmas.{vectors_are_a_box}
 use Rattle.pmt_laws.proofs.CutLemmas.{has-dec, place-dropped}

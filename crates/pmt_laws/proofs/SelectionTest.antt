@@ -2,9 +2,7 @@
 use Rattle.std.proofs.Common.{◌≡◌, ℕ, zero, suc, ◌≤◌, ◌⊎◌, ◌==◌, ◌&&◌, ◌||◌, Bool, true, false, List, [], ◌∷◌, length, Option, Some, sym, ◌∙◌, ap, subst, inl, inr, arith}
 use Rattle.std.specs.Prelude.{nat_lt, nat_le}
 use Rattle.std.proofs.lemmas.Bool.{and_parts, or_cases, ltb-true, leb-true, eqb-true, cases_eq}
-use Rattle.pmt_model.specs.Machine.{Act, Stores, Asserts}
-use Rattle.pmt_model.specs.Traces.{Recording, IsAct}
-use Rattle.pmt_model.specs.Selections.{IsRising, Has, always_stays, IsSelection}
+use Rattle.pmt_laws.specs.Prelude.{Act, Stores, Asserts, Recording, IsAct, IsRising, Has, always_stays, IsSelection}
 use Rattle.pmt_laws.proofs.Histories.{act-within}
 use Rattle.pmt_laws.proofs.KeptTest.{act_at, there-act}
 

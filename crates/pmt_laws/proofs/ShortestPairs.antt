@@ -1,12 +1,7 @@
 -- Each kept event has a partner in a selection with the same counts of persisted stores, and no two have the same.
 use Rattle.std.proofs.Common.{◌≡◌, ◌≢◌, ℕ, zero, suc, ◌-◌, ◌<◌, ◌≤◌, List, length, true, refl, sym, ap, subst, ◌∙◌, arith, true≢false, subst₂, le_antisymm, max, lt_of_not-le, le_of_suc-le-suc}
-use Rattle.pmt_model.specs.Machine.{Act, Flushes, Clflushes, Fences}
-use Rattle.pmt_model.specs.Traces.{Recording, IsAct, history, count_at}
-use Rattle.pmt_model.specs.Fronts.{front, mark, front_at}
-use Rattle.pmt_model.specs.Selections.{Has, IsSelection, always_stays, cut, matching_place}
-use Rattle.pmt_model.specs.Keeping.{IsKept}
+use Rattle.pmt_laws.specs.Prelude.{Act, Flushes, Clflushes, Fences, Recording, IsAct, history, count_at, front, mark, front_at, Has, IsSelection, always_stays, cut, matching_place, IsKept, HasSameVectors}
 use Rattle.pmt_model.specs.Keeping.IsKept.{Stays, ByFence, ByFlush, ByClflush}
-use Rattle.pmt_model.specs.Shortest.{HasSameVectors}
 use Rattle.pmt_laws.proofs.Histories.{act-unique, act-within, history-act, front-mono}
 use Rattle.pmt_laws.proofs.CutLemmas.{place-kept, cut-act}
 use Rattle.pmt_laws.proofs.CutActs.{act-origin, earlier-origin, count-origin}

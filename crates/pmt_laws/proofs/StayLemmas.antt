@@ -3,15 +3,7 @@ use Rattle.std.proofs.Common.{◌≡◌, ℕ, zero, suc, ◌<◌, ◌≤◌, fal
 use Rattle.std.proofs.lemmas.Bool.{le-leb}
 use Rattle.std.proofs.lemmas.Option.{IfSome_then, none-some}
 use Rattle.std.proofs.lemmas.Bool.Decides.{nat_tests}
-use Rattle.pmt_model.specs.Values.{Span}
-use Rattle.pmt_model.specs.declared.event.Event.{Event}
-use Rattle.pmt_model.specs.Machine.{Act, Stores, count}
-use Rattle.pmt_model.specs.Traces.{Recording, event, IsAct, history, count_at}
-use Rattle.pmt_model.specs.Fronts.{front, front_at}
-use Rattle.pmt_model.specs.Selections.{Has, always_stays, IsSelection, cut, matching_place}
-use Rattle.pmt_model.specs.Keeping.{IsKeep}
-use Rattle.pmt_model.specs.Assertions.{Placed, last_store, InSpan, PersistPasses, OrderedPasses, up_to_last, NoLater}
-use Rattle.pmt_model.specs.Findings.{IsNeverPersisted}
+use Rattle.pmt_laws.specs.Prelude.{Span, Event, Act, Stores, count, Recording, event, IsAct, history, count_at, front, front_at, Has, always_stays, IsSelection, cut, matching_place, IsKeep, Placed, last_store, InSpan, PersistPasses, OrderedPasses, up_to_last, NoLater, IsNeverPersisted}
 use Rattle.pmt_laws.specs.ModelLaws.{VerdictsStay, NeverPersistedStays}
 use Rattle.pmt_laws.proofs.Histories.{event-some}
 use Rattle.pmt_laws.proofs.CutLemmas.{has-above, place-kept, cut-act, IsNext, Keeps, Drops, Ended, next-step, history-zero, count-cut}

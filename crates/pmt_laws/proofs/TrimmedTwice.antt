@@ -1,9 +1,6 @@
 -- Each event of a trimmed trace would be kept again.
 use Rattle.std.proofs.Common.{◌≡◌, ◌≢◌, ℕ, zero, suc, ◌-◌, ◌<◌, List, refl, sym, ap, subst, ◌∙◌, arith}
-use Rattle.pmt_model.specs.Machine.{Act, Flushes, Clflushes, Fences}
-use Rattle.pmt_model.specs.Traces.{Recording, act, IsAct, count_at}
-use Rattle.pmt_model.specs.Fronts.{front_at}
-use Rattle.pmt_model.specs.Selections.{Has, IsSelection, cut, matching_place}
+use Rattle.pmt_laws.specs.Prelude.{Act, Flushes, Clflushes, Fences, Recording, act, IsAct, count_at, front_at, Has, IsSelection, cut, matching_place}
 use Rattle.pmt_model.specs.Keeping.{IsKept, Stays, ByFence, ByFlush, ByClflush, IsKeep}
 use Rattle.pmt_laws.specs.ModelLaws.{TrimmedAgain}
 use Rattle.pmt_laws.proofs.Histories.{event-some}

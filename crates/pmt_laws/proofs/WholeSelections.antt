@@ -1,11 +1,8 @@
 -- A selection of all events cuts nothing.
 use Rattle.std.proofs.Common.{◌≡◌, ℕ, suc, ◌<◌, ◌≤◌, ◌⊎◌, inl, inr, List, [], ◌∷◌, length, Some, drop, drop-cons, drop_of_length-le, refl, sym, ap, subst, ◌∙◌, arith}
 use Rattle.std.specs.Prelude.{slice_get}
-use Rattle.std.specs.List.{filter_map, cons_option}
 use Rattle.std.proofs.lemmas.Option.{slice_get_within, get_or_from_slice_get}
-use Rattle.pmt_model.specs.declared.event.Event.{Event}
-use Rattle.pmt_model.specs.Traces.{Recording, event}
-use Rattle.pmt_model.specs.Selections.{IsRising, Has, cut}
+use Rattle.pmt_laws.specs.Prelude.{Event, Recording, event, IsRising, Has, cut, filter_map, cons_option}
 use Rattle.pmt_laws.specs.ModelLaws.{TrimmedStays}
 use Rattle.pmt_laws.proofs.Histories.{event-some}
 use Rattle.pmt_laws.proofs.CutLemmas.{has-above}

@@ -3,18 +3,8 @@ use Rattle.std.proofs.Common.{◌≡◌, ℕ, ◌<◌, ◌≤◌, ◌⊎◌, Boo
 use Rattle.std.proofs.lemmas.Bool.{false≢true}
 use Rattle.std.proofs.lemmas.Option.{same_Some}
 use Rattle.std.proofs.lemmas.Bool.Decides.{nat_tests}
-use Rattle.pmt_model.specs.declared.event.Event.{Event}
-use Rattle.pmt_model.specs.declared.finding.Finding.{Finding}
-use Rattle.pmt_model.specs.declared.finding.Finding.TheVariants.{Overwritten, NeverPersisted, RedundantFlush, FenceWithoutFlush}
-use Rattle.pmt_model.specs.declared.finding.Verdict.{Verdict}
-use Rattle.pmt_model.specs.Values.{Written, Span}
-use Rattle.pmt_model.specs.Machine.{Act, Stores, Flushes, Clflushes, Fences, Asserts}
-use Rattle.pmt_model.specs.Traces.{IsAct, event, history}
-use Rattle.pmt_model.specs.Findings.{ByFlush, IsFlushedAfter, IsRedundantFlush}
-use Rattle.pmt_model.specs.Assertions.{PersistPasses}
-use Rattle.pmt_model.specs.Analyses.{IsFinding, HasFinding, IsFindings, IsVerdictOf, OfPersist, OfOrdered, HasVerdict, IsVerdicts}
-use Rattle.pmt_laws.specs.Worked.{store, clwb, sfence, byte_at, is_persist}
-use Rattle.pmt_laws.specs.WorkedFindings.{every_finding, EveryFinding}
+use Rattle.pmt_laws.specs.Prelude.{Event, Finding, Overwritten, NeverPersisted, RedundantFlush, FenceWithoutFlush, Verdict, Written, Span, Act, Stores, Flushes, Clflushes, Fences, Asserts, IsAct, event, history, ByFlush, IsFlushedAfter, IsRedundantFlush, PersistPasses, IsFinding, HasFinding, IsFindings, IsVerdictOf, OfPersist, OfOrdered, HasVerdict, IsVerdicts}
+use Rattle.pmt_laws.specs.Worked.{store, clwb, sfence, byte_at, is_persist, every_finding, EveryFinding}
 use Rattle.pmt_laws.proofs.NeverLemmas.{never_persisted_by_fronts}
 use Rattle.pmt_laws.proofs.RedundantLemmas.{redundant_flush_by_fronts}
 use Rattle.pmt_laws.proofs.OverwrittenLemmas.{overwritten_by_numbers}

@@ -1,11 +1,7 @@
 -- What the definitions say of the worked traces with findings, of the order within a line, and of lines of other sizes.
 use Rattle.std.proofs.Common.{◌≡◌, ℕ, ◌≤◌, ◌⊎◌, [], ◌∷◌, true, inl, inr, refl, lit<, lit≤, arith}
-use Rattle.pmt_model.specs.Machine.{writes}
-use Rattle.pmt_model.specs.declared.finding.Finding.TheVariants.{Overwritten}
-use Rattle.pmt_model.specs.Traces.{history}
-use Rattle.pmt_model.specs.Analyses.{IsFinding}
-use Rattle.pmt_laws.specs.Worked.{store, clwb, clflush}
-use Rattle.pmt_laws.specs.WorkedFindings.{double_flush, DoubleFlush, overwritten_before_flush, OverwrittenBeforeFlush, order_within_a_line, OrderWithinALine, flushed_further_on, WideLine, NarrowLine, clflush_twice, ClflushTwice}
+use Rattle.pmt_laws.specs.Prelude.{writes, Overwritten, history, IsFinding}
+use Rattle.pmt_laws.specs.Worked.{store, clwb, clflush, double_flush, DoubleFlush, overwritten_before_flush, OverwrittenBeforeFlush, order_within_a_line, OrderWithinALine, flushed_further_on, WideLine, NarrowLine, clflush_twice, ClflushTwice}
 use Rattle.pmt_laws.proofs.Histories.{act-unique}
 use Rattle.pmt_laws.proofs.RedundantLemmas.{redundant_flush_by_fronts, redundant_clflush_by_fronts}
 use Rattle.pmt_laws.proofs.OverwrittenLemmas.{overwritten_by_numbers}

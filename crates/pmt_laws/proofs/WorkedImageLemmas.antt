@@ -3,10 +3,7 @@ use Rattle.std.proofs.Common.{◌≡◌, ℕ, ◌<◌, ◌⊎◌, ◌↔◌, Boo
 use Rattle.std.specs.Prelude.{nat_lt, if◌then◌else◌}
 use Rattle.std.proofs.lemmas.Bool.{lt-ltb, ltb-true}
 use Rattle.std.proofs.lemmas.Bool.Decides.{nat_tests}
-use Rattle.pmt_model.specs.Values.{Written}
-use Rattle.pmt_model.specs.Machine.{Act, Stores, Image, write, image_of, count}
-use Rattle.pmt_model.specs.Traces.{history, CrashAt}
-use Rattle.pmt_model.specs.Boxes.{InBox}
+use Rattle.pmt_laws.specs.Prelude.{Written, Act, Stores, Image, write, image_of, count, history, CrashAt, InBox}
 use Rattle.pmt_laws.specs.Worked.{nothing, two_bytes, IsSame, second_byte_again, SecondByteAgain}
 use Rattle.pmt_laws.proofs.Histories.{count-grows}
 use Rattle.pmt_laws.proofs.BoxLemmas.{box-ends}

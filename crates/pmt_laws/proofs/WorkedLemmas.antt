@@ -2,15 +2,7 @@
 use Rattle.std.proofs.Common.{◌≡◌, ℕ, zero, suc, ◌-◌, ◌<◌, ◌≤◌, ◌⊎◌, ◌↔◌, Bool, true, false, List, [], ◌∷◌, Option, None, inl, inr, refl, sym, ◌∙◌, ap, subst, lit<, lit≤, arith, max, unwrap_or}
 use Rattle.std.specs.Prelude.{nat_lt, if◌then◌else◌}
 use Rattle.std.proofs.lemmas.Bool.{false≢true, cases_eq, ne_eqb, lt-ltb}
-use Rattle.pmt_model.specs.declared.finding.Finding.TheVariants.{RedundantFlush, Overwritten}
-use Rattle.pmt_model.specs.Values.{Written}
-use Rattle.pmt_model.specs.Machine.{Act, Stores, Flushes, Clflushes, State, Ends, Image, write, image_of, Crash, count}
-use Rattle.pmt_model.specs.Traces.{IsAct, history, CrashAt, VectorsAt, Recording, count_at}
-use Rattle.pmt_model.specs.Fronts.{front, front_at, open_mark}
-use Rattle.pmt_model.specs.Boxes.{InBox}
-use Rattle.pmt_model.specs.Selections.{cut}
-use Rattle.pmt_model.specs.Findings.{ByFlush, IsFlushedAfter, IsFlushOf, IsEmptyFence, IsCovered, IsRedundantClflush}
-use Rattle.pmt_model.specs.Analyses.{IsFinding}
+use Rattle.pmt_laws.specs.Prelude.{RedundantFlush, Overwritten, Written, Act, Stores, Flushes, Clflushes, State, Ends, Image, write, image_of, Crash, count, IsAct, history, CrashAt, VectorsAt, Recording, count_at, front, front_at, open_mark, InBox, cut, ByFlush, IsFlushedAfter, IsFlushOf, IsEmptyFence, IsCovered, IsRedundantClflush, IsFinding}
 use Rattle.pmt_laws.specs.Worked.{nothing, byte_alone, IsSame, store, clwb, clflush, sfence, fence_of_another_thread, FenceOfAnotherThread, flushed_by_two_threads, FlushedByTwoThreads, two_rounds, TwoRounds, store_after_flush, StoreAfterFlush, ordered_by_fence, OrderedByFence, ordered_fence_too_late, OrderedFenceTooLate, same_byte_twice, SameByteTwice, clflush_beats_clwb, ClflushBeatsClwb}
 use Rattle.pmt_laws.proofs.Histories.{act-within, act-unique, front-le-count}
 use Rattle.pmt_laws.proofs.BoxLemmas.{box-ends, vectors_are_a_box}

@@ -1,10 +1,8 @@
 -- The worked traces are within the limits of a trace.
 use Rattle.std.proofs.Common.{ℕ, ◌<◌, ◌^◌, refl, lit<, lit≤, arith}
 use Rattle.std.proofs.lemmas.Bool.Decides.{nat_tests}
-use Rattle.pmt_model.specs.Values.{Layout}
-use Rattle.pmt_model.specs.Traces.{IsEventIn}
-use Rattle.pmt_laws.specs.Worked.{store, store_two, clwb, sfence, is_persist, is_ordered_before}
-use Rattle.pmt_laws.specs.WorkedFindings.{WorkedAreTraces}
+use Rattle.pmt_laws.specs.Prelude.{Layout, IsEventIn}
+use Rattle.pmt_laws.specs.Worked.{store, store_two, clwb, sfence, is_persist, is_ordered_before, WorkedAreTraces}
 
 -- A store of one byte is an event of each format.
 store-event : (f : Layout) (t a byte : ℕ) → t < 256 → a < 2 ^ 48 → byte < 256 → IsEventIn f (store t a byte)

@@ -1,5 +1,4 @@
 pub mod ModelLaws
 pub mod Worked
-pub mod WorkedFindings
-pub mod OneAnalysis
 pub mod Passing
+pub mod Prelude

@@ -1,15 +1,6 @@
 -- What is proved of the definitions of pmt_model.
 use Rattle.std.specs.Prelude.{◌≡◌, ℕ, ◌<◌, ◌≤◌, max, List, ◌↔◌, false, length, ◌-◌, IfSome, unwrap_or}
-use Rattle.pmt_model.specs.Values.{Span, Written}
-use Rattle.pmt_model.specs.Machine.{Act, Stores, Flushes, Clflushes, Vectors}
-use Rattle.pmt_model.specs.Traces.{Recording, IsAct, history, count_at}
-use Rattle.pmt_model.specs.Fronts.{front, front_at, open_mark, IsFront}
-use Rattle.pmt_model.specs.Boxes.{InBox}
-use Rattle.pmt_model.specs.Selections.{Has, always_stays, IsFaithful, cut, matching_place, IsSelection}
-use Rattle.pmt_model.specs.Keeping.{IsKeep, IsKept, without}
-use Rattle.pmt_model.specs.Assertions.{last_store, InSpan, PersistPasses, OrderedPasses, up_to_last, NoLater}
-use Rattle.pmt_model.specs.Findings.{IsRedundantFlush, IsRedundantClflush, IsNeverPersisted, IsOverwritten, OverwritesBefore}
-use Rattle.pmt_model.specs.Shortest.{HasSameVectors, HasNoWaste}
+use Rattle.pmt_laws.specs.Prelude.{Span, Written, Act, Stores, Flushes, Clflushes, Vectors, Recording, IsAct, history, count_at, front, front_at, open_mark, IsFront, InBox, Has, always_stays, IsFaithful, cut, matching_place, IsSelection, IsKeep, IsKept, without, last_store, InSpan, PersistPasses, OrderedPasses, up_to_last, NoLater, IsRedundantFlush, IsRedundantClflush, IsNeverPersisted, IsOverwritten, OverwritesBefore, HasSameVectors, HasNoWaste, Finding, Verdict, IsAnalysis}
 
 -- The front, kept event by event, is the greatest count that a completed flush marked.
 abbrev pub FrontsAreGreatest : Type 0
@@ -106,3 +97,9 @@ TrimmedAgain = (T : Recording) (K : List ℕ) (i : ℕ) → IsKeep T K → 1 ≤
 -- A trimmed trace, trimmed again, stays the same.
 abbrev pub TrimmedStays : Type 0
 TrimmedStays = (T : Recording) (K J : List ℕ) → IsKeep T K → IsKeep (cut T K) J → cut (cut T K) J ≡ cut T K
+
+-- Two analyses of a trace are one: whoever makes it, and with however many workers, gives the same answer.
+abbrev pub AnalysisIsUnique : Type 0
+AnalysisIsUnique =
+    (T : Recording) (m n : ℕ) (fs gs : List Finding) (vs ws : List Verdict) (K J : List ℕ) → IsAnalysis T m fs vs K → IsAnalysis T n gs ws J →
+    (m ≡ n) × (fs ≡ gs) × (vs ≡ ws) × (K ≡ J)

@@ -1,12 +1,7 @@
 -- What is known of a trace while its events come: whether an event is kept is decided once it has come and, where it is a flush, once
 -- its thread has fenced.
 use Rattle.std.specs.Prelude.{◌≡◌, ℕ, suc, ◌<◌, ◌≤◌, ◌↔◌, ◌==◌, max, if◌then◌else◌, List, [], ◌∷◌, ◌++◌, length}
-use Rattle.pmt_model.specs.declared.event.Event.{Event}
-use Rattle.pmt_model.specs.Machine.{Act, Stores, Flushes, Clflushes, Fences, Asserts, count}
-use Rattle.pmt_model.specs.Pushing.{with_events}
-use Rattle.pmt_model.specs.Traces.{Recording, IsAct, history, count_at}
-use Rattle.pmt_model.specs.Fronts.{front, front_at}
-use Rattle.pmt_model.specs.Keeping.{IsKept}
+use Rattle.pmt_laws.specs.Prelude.{Event, Act, Stores, Flushes, Clflushes, Fences, Asserts, count, with_events, Recording, IsAct, history, count_at, front, front_at, IsKept}
 
 -- Event k is a flush (no clflush) whose thread has not fenced since.
 pub record IsOpenFlush (T : Recording) (k : ℕ) : Type 0 where

@@ -1,7 +1,6 @@
 //! Small traces, with what the definitions say of them.
 
-ghost use Rattle.pmt_laws.specs.WorkedFindings.{DoubleFlush, OverwrittenBeforeFlush, OrderWithinALine, WideLine, NarrowLine, ClflushTwice, EveryFinding, WorkedAreTraces};
-ghost use Rattle.pmt_laws.specs.Worked.{FenceOfAnotherThread, FlushedByTwoThreads, TwoRounds, StoreAfterFlush, OrderedByFence, OrderedFenceTooLate, SameByteTwice, ClflushBeatsClwb, SecondByteAgain};
+ghost use Rattle.pmt_laws.specs.Worked.{DoubleFlush, OverwrittenBeforeFlush, OrderWithinALine, WideLine, NarrowLine, ClflushTwice, EveryFinding, WorkedAreTraces, FenceOfAnotherThread, FlushedByTwoThreads, TwoRounds, StoreAfterFlush, OrderedByFence, OrderedFenceTooLate, SameByteTwice, ClflushBeatsClwb, SecondByteAgain};
 
 /// A fence completes the flushes of its own thread alone, so the store stays pending and the fence of the other thread goes.
 pub fn fence_of_another_thread()

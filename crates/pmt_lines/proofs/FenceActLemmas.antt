@@ -4,11 +4,7 @@ use Rattle.std.specs.Prelude.{◌↔◌, if◌then◌else◌, All}
 use Rattle.std.proofs.lemmas.Bool.{cases_eq, eq-eqb, ne_eqb, both_ways}
 use Rattle.std.proofs.lemmas.List.{get_or-set_same, get_or-set_other, length-set, same_lists, get_or-map, length-map}
 use Rattle.std.proofs.lemmas.List.Elements.{recursion_from_All}
-use Rattle.pmt_model.specs.declared.event.Event.{Event}
-use Rattle.pmt_model.specs.Machine.{Act, Flushes, Fences, Asserts}
-use Rattle.pmt_model.specs.Traces.{Recording, act, IsAct, history, has_line, lines_of}
-use Rattle.pmt_model.specs.Pushing.{with_event}
-use Rattle.pmt_model.specs.Fronts.{open_mark}
+use Rattle.pmt_laws.specs.Prelude.{Event, Act, Flushes, Fences, Asserts, Recording, act, IsAct, history, has_line, lines_of, with_event, open_mark}
 use Rattle.pmt_laws.proofs.Histories.{act-unique}
 use Rattle.pmt_lines.specs.declared.step.Step.{Step}
 use Rattle.pmt_lines.specs.Jobs.{LineWork, with_step, IsStepOf, Touches, ByFence, IsFlushOrFence, AFlush, AFence, IsThreadJobOf, IsLeanJob, line_in, places_of, OpenEach, ArePlaces, IsSplitting, IsSplit, EndsAt}

@@ -1,9 +1,6 @@
 -- Lists of findings in report order.
 use Rattle.std.proofs.Common.{◌≡◌, ℕ, ◌⊎◌, inl, inr, Bool, true, false, List, [], ◌∷◌, ◌++◌, refl, ap}
-use Rattle.pmt_model.specs.declared.finding.Finding.{Finding}
-use Rattle.pmt_model.specs.declared.finding.Finding.TheVariants.{Overwritten}
-use Rattle.pmt_model.specs.Selections.{IsRising, Has}
-use Rattle.pmt_model.specs.Analyses.{IsReportedBefore, InReportOrder, HasFinding}
+use Rattle.pmt_laws.specs.Prelude.{Finding, Overwritten, IsRising, Has, IsReportedBefore, InReportOrder, HasFinding}
 use Rattle.pmt_lines.specs.Jobs.{overwritten_by, found_if}
 
 -- what two lists together have

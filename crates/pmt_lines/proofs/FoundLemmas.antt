@@ -3,11 +3,7 @@ use Rattle.std.proofs.Common.{◌≡◌, ℕ, suc, ◌+◌, ◌-◌, ◌%◌, �
 use Rattle.std.specs.Prelude.{◌↔◌, replicate}
 use Rattle.std.proofs.lemmas.Bool.{cases_lt}
 use Rattle.std.proofs.lemmas.List.{get_or-replicate, drop_more, drop_all}
-use Rattle.pmt_model.specs.declared.finding.Finding.{Finding}
-use Rattle.pmt_model.specs.Machine.{Stores, Flushes, Clflushes}
-use Rattle.pmt_model.specs.Traces.{Recording, IsTrace, history}
-use Rattle.pmt_model.specs.Findings.{last_flush}
-use Rattle.pmt_model.specs.Analyses.{reported_at, InReportOrder, HasFinding}
+use Rattle.pmt_laws.specs.Prelude.{Finding, Stores, Flushes, Clflushes, Recording, IsTrace, history, last_flush, reported_at, InReportOrder, HasFinding}
 use Rattle.pmt_laws.proofs.Histories.{act-within}
 use Rattle.pmt_marks.proofs.FollowLemmas.{follows-start}
 use Rattle.pmt_lines.specs.declared.step.StepKind.{StepKind}
@@ -15,8 +11,7 @@ use Rattle.pmt_lines.specs.declared.step.StepKind.TheVariants.{Store, Flush, Clf
 use Rattle.pmt_lines.specs.declared.step.Step.{Step}
 use Rattle.pmt_lines.specs.declared.line_findings.Scan.{Scan}
 use Rattle.pmt_lines.specs.declared.line_findings.Ending.{Ending}
-use Rattle.pmt_lines.specs.Jobs.{AreSteps, IsKind, IsStepOf, Touches, ByStore, ByFlush, ByClflush, IsWalkFrom, IsJobOf, TakesStep, IsEnding, last_flush_of, flush_after, AreStoresAt, TakesBytes, Reports, ReportsKind}
-use Rattle.pmt_lines.specs.LineFindings.{IsLineFinding, AreLineFindings}
+use Rattle.pmt_lines.specs.Jobs.{AreSteps, IsKind, IsStepOf, Touches, ByStore, ByFlush, ByClflush, IsWalkFrom, IsJobOf, TakesStep, IsEnding, last_flush_of, flush_after, AreStoresAt, TakesBytes, Reports, ReportsKind, IsLineFinding, AreLineFindings}
 use Rattle.pmt_lines.proofs.RunLemmas.{kind-within}
 use Rattle.pmt_lines.proofs.ScanLemmas.{IsScan, scan-over, scan-kind, flush-over, flush-kind}
 use Rattle.pmt_lines.proofs.FindingLists.{has-append, has-left, has-right, ordered-append}

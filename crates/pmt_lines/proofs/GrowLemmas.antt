@@ -1,13 +1,9 @@
 -- A trace with one event more: what was so of its events is so still, and the jobs go on.
-use Rattle.std.proofs.Common.{◌≡◌, ℕ, zero, suc, ◌-◌, ◌<◌, ◌≤◌, ◌⊎◌, inl, inr, List, [], ◌∷◌, ◌++◌, length, refl, sym, ap, subst, ◌∙◌, arith}
+use Rattle.std.proofs.Common.{◌≡◌, ℕ, suc, ◌-◌, ◌<◌, ◌≤◌, ◌⊎◌, inl, inr, List, [], ◌∷◌, ◌++◌, length, sym, ap, subst, ◌∙◌, arith}
 use Rattle.std.proofs.lemmas.Bool.{cases_lt}
-use Rattle.pmt_model.specs.declared.event.Event.{Event}
-use Rattle.pmt_model.specs.Machine.{Act, Stores, Flushes, Clflushes, Fences}
-use Rattle.pmt_model.specs.Traces.{Recording, IsAct}
-use Rattle.pmt_model.specs.Pushing.{with_event}
-use Rattle.pmt_model.specs.Fronts.{open_mark}
+use Rattle.pmt_laws.specs.Prelude.{Event, Stores, Flushes, Clflushes, Fences, Recording, with_event, open_mark}
 use Rattle.pmt_laws.proofs.Histories.{act-within}
-use Rattle.pmt_taking.proofs.GrownLemmas.{length-grown, event-old, history-old, act-from, act-to, act-past}
+use Rattle.pmt_taking.proofs.GrownLemmas.{event-old, history-old, act-from, act-to, act-past}
 use Rattle.pmt_lines.specs.declared.step.StepKind.{StepKind}
 use Rattle.pmt_lines.specs.declared.step.StepKind.TheVariants.{Store, Flush, Clflush, Fence}
 use Rattle.pmt_lines.specs.declared.step.Step.{Step}

@@ -1,7 +1,7 @@
 -- Jobs by their places: a step added to the job of a line, and a fence added to each of several.
 use Rattle.std.proofs.Common.{◌≡◌, ◌≢◌, ℕ, zero, suc, ◌<◌, ◌≤◌, ◌⊎◌, inl, inr, Bool, true, false, not, List, [], ◌∷◌, ◌++◌, length, get_or, set, map, Some, refl, sym, ap, ◌∙◌, arith}
 use Rattle.std.specs.Prelude.{◌==◌, ◌||◌, nat_eq, if◌then◌else◌, slice_get, All}
-use Rattle.std.specs.List.{list_any, IsDistinct}
+use Rattle.pmt_laws.specs.Prelude.{list_any, IsDistinct, has_line, with_line}
 use Rattle.std.proofs.lemmas.Bool.{cases_eq, cases_order, eq-eqb, ne_eqb, eqb-true, not-true, not-false}
 use Rattle.std.proofs.lemmas.Bool.Decides.{Decides-eqb}
 use Rattle.std.proofs.lemmas.List.{get_or-map, get_or_default, get_or-set_same, get_or-set_other, length-set, map-append, map-set}
@@ -9,7 +9,6 @@ use Rattle.std.proofs.lemmas.List.Elements.{All-push}
 use Rattle.std.proofs.lemmas.Map.Made.{AllPairs-from_IsDistinct}
 use Rattle.std.proofs.lemmas.Option.{get_or_from_slice_get, slice_get_within}
 use Rattle.indexmap.specs.IndexSet.{insert_key}
-use Rattle.pmt_model.specs.Traces.{has_line, with_line}
 use Rattle.pmt_taking.proofs.AppearLemmas.{has_line-push}
 use Rattle.pmt_lines.specs.declared.step.Step.{Step}
 use Rattle.pmt_lines.specs.Jobs.{LineWork, last_number, with_step, line_in, with_job, TakesOnLine, EndBefore, EndsAt}

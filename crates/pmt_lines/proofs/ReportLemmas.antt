@@ -2,19 +2,11 @@
 use Rattle.std.proofs.Common.{◌≡◌, ℕ, suc, ◌-◌, ◌≤◌, inl, inr, Bool, true, List, [], refl, sym, ap, subst, ◌∙◌, arith}
 use Rattle.std.specs.Prelude.{◌↔◌, nat_le, max, unwrap_or}
 use Rattle.std.proofs.lemmas.Bool.{leb-true}
-use Rattle.pmt_model.specs.declared.finding.Finding.{Finding}
-use Rattle.pmt_model.specs.declared.finding.Finding.TheVariants.{Overwritten, NeverPersisted, RedundantFlush, FenceWithoutFlush}
-use Rattle.pmt_model.specs.Values.{Written}
-use Rattle.pmt_model.specs.Machine.{Stores, Flushes, Clflushes, Fences, count}
-use Rattle.pmt_model.specs.Traces.{Recording, IsAct, history, count_at}
-use Rattle.pmt_model.specs.Fronts.{front_at, open_mark}
-use Rattle.pmt_model.specs.Findings.{IsRedundantFlush, IsRedundantClflush}
-use Rattle.pmt_model.specs.Analyses.{reported_at, InReportOrder, HasFinding}
+use Rattle.pmt_laws.specs.Prelude.{Finding, Overwritten, NeverPersisted, RedundantFlush, FenceWithoutFlush, Written, Stores, Flushes, Clflushes, Fences, count, Recording, IsAct, history, count_at, front_at, open_mark, IsRedundantFlush, IsRedundantClflush, reported_at, InReportOrder, HasFinding}
 use Rattle.pmt_laws.proofs.Histories.{act-unique, history-act}
 use Rattle.pmt_laws.proofs.RedundantLemmas.{redundant_flush_by_fronts, redundant_clflush_by_fronts}
 use Rattle.pmt_marks.specs.Lines.{Line, Follows, mark_in}
-use Rattle.pmt_lines.specs.LineFindings.{IsLineFinding}
-use Rattle.pmt_lines.specs.Jobs.{found_if, is_flush_covered}
+use Rattle.pmt_lines.specs.Jobs.{IsLineFinding, found_if, is_flush_covered}
 use Rattle.pmt_lines.proofs.FindingLists.{has-if, if-has, if-ordered}
 
 -- The findings of line l that are reported at event i, in report order, and no others.

@@ -3,9 +3,7 @@ use Rattle.std.proofs.Common.{◌≡◌, ℕ, ◌<◌, ◌≤◌, ◌⊎◌, inl
 use Rattle.std.specs.Prelude.{◌↔◌}
 use Rattle.std.proofs.lemmas.Bool.{cases_lt}
 use Rattle.std.proofs.lemmas.List.{map-append}
-use Rattle.pmt_model.specs.declared.finding.Finding.{Finding}
-use Rattle.pmt_model.specs.declared.finding.Finding.TheVariants.{Overwritten}
-use Rattle.pmt_model.specs.Selections.{IsRising, Has}
+use Rattle.pmt_laws.specs.Prelude.{Finding, Overwritten, IsRising, Has}
 use Rattle.pmt_lines.specs.Jobs.{IsAmong, IsNextAbove, overwritten_by}
 
 -- a greater number at the end keeps the order

@@ -2,12 +2,9 @@
 use Rattle.std.proofs.Common.{◌≡◌, ℕ, zero, suc, ◌+◌, ◌-◌, ◌<◌, ◌≤◌, ◌⊎◌, inl, inr, List, [], ◌∷◌, ◌++◌, length, get_or, drop, Option, Some, None, refl, sym, ap, subst, ◌∙◌, arith}
 use Rattle.std.proofs.lemmas.Bool.{cases_lt}
 use Rattle.std.proofs.lemmas.List.{drop_more, drop_all}
-use Rattle.pmt_model.specs.Machine.{Act, Stores, Flushes, Clflushes, Fences, Asserts}
-use Rattle.pmt_model.specs.Traces.{Recording, IsAct, history, event_limit}
-use Rattle.pmt_model.specs.Fronts.{open_mark, front_at}
+use Rattle.pmt_laws.specs.Prelude.{Act, Stores, Flushes, Clflushes, Fences, Asserts, Recording, IsAct, history, event_limit, open_mark, front_at}
 use Rattle.pmt_laws.proofs.Histories.{history-act, history-step, act-within, front-mono}
-use Rattle.pmt_marks.specs.Lines.{Line, Follows}
-use Rattle.pmt_marks.specs.Others.{LeavesLineUnchanged}
+use Rattle.pmt_marks.specs.Lines.{Line, Follows, LeavesLineUnchanged}
 use Rattle.pmt_marks.proofs.FollowLemmas.{others_leave}
 use Rattle.pmt_lines.specs.Jobs.{Raise, RaisesBetween, IsRaises, AreSteps, IsKind, IsStepOf, Touches, ByStore, ByFlush, ByClflush, ByFence, IsWalkFrom, IsJobOf, TakesKind, TakesStep}
 use Rattle.pmt_lines.specs.declared.step.StepKind.{StepKind}

@@ -4,11 +4,7 @@ use Rattle.std.specs.Prelude.{◌==◌, ◌&&◌, ◌↔◌, if◌then◌else◌
 use Rattle.std.proofs.lemmas.Bool.{cases_lt, cases_eq, eq-eqb, ne_eqb, both_ways}
 use Rattle.std.proofs.lemmas.List.{get_or-set_same, get_or-set_other, length-set, get_or_append_left, get_or_at, length-append, same_lists, get_or-map, length-map}
 use Rattle.std.proofs.lemmas.List.Elements.{All-push}
-use Rattle.pmt_model.specs.declared.event.Event.{Event}
-use Rattle.pmt_model.specs.Machine.{Act, Flushes, count}
-use Rattle.pmt_model.specs.Traces.{Recording, act, IsAct, history, has_line, with_line, lines_of}
-use Rattle.pmt_model.specs.Pushing.{with_event}
-use Rattle.pmt_model.specs.Fronts.{open_mark}
+use Rattle.pmt_laws.specs.Prelude.{Event, Act, Flushes, count, Recording, act, IsAct, history, has_line, with_line, lines_of, with_event, open_mark}
 use Rattle.pmt_lines.specs.declared.step.Step.{Step}
 use Rattle.pmt_lines.specs.Jobs.{LineWork, with_step, IsStepOf, Touches, IsThreadJobOf, IsLeanJob, line_in, places_of, with_place, OpenEach, ArePlaces, IsSplitting, with_job, TakesOnLine}
 use Rattle.pmt_taking.proofs.GrownLemmas.{length-grown, history-new, act-new}

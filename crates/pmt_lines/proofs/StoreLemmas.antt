@@ -2,22 +2,13 @@
 use Rattle.std.proofs.Common.{◌≡◌, ℕ, suc, ◌+◌, ◌-◌, ◌%◌, ◌<◌, ◌≤◌, ◌⊎◌, inl, inr, Bool, true, false, List, ◌++◌, length, get_or, Option, Some, None, refl, sym, ap, subst, ◌∙◌, arith}
 use Rattle.std.specs.Prelude.{◌↔◌, IsTrue, nat_lt, unwrap_or, ◌==◌}
 use Rattle.std.proofs.lemmas.Bool.{ltb-true, eq-eqb}
-use Rattle.pmt_model.specs.declared.finding.Finding.{Finding}
-use Rattle.pmt_model.specs.declared.finding.Finding.TheVariants.{Overwritten, NeverPersisted, RedundantFlush, FenceWithoutFlush}
-use Rattle.pmt_model.specs.Values.{Written}
-use Rattle.pmt_model.specs.Machine.{Stores, Flushes, Clflushes, count, writes}
-use Rattle.pmt_model.specs.Traces.{Recording, IsTrace, IsAct, history, count_at}
-use Rattle.pmt_model.specs.Fronts.{front_at}
-use Rattle.pmt_model.specs.Findings.{IsNeverPersisted, IsFlushOf, ByFlush, ByClflush, IsFlushedAfter, IsOverwritten, OverwritesBefore, last_store_number, last_flush}
-use Rattle.pmt_model.specs.Selections.{Has}
-use Rattle.pmt_model.specs.Analyses.{reported_at, IsReportedBefore, HasFinding}
+use Rattle.pmt_laws.specs.Prelude.{Finding, Overwritten, NeverPersisted, RedundantFlush, FenceWithoutFlush, Written, Stores, Flushes, Clflushes, count, writes, Recording, IsTrace, IsAct, history, count_at, front_at, IsNeverPersisted, IsFlushOf, ByFlush, ByClflush, IsFlushedAfter, IsOverwritten, OverwritesBefore, last_store_number, last_flush, Has, reported_at, IsReportedBefore, HasFinding}
 use Rattle.pmt_laws.proofs.Histories.{act-unique, act-within, history-act}
 use Rattle.pmt_laws.proofs.NeverLemmas.{never_persisted_by_fronts}
 use Rattle.pmt_laws.proofs.OverwrittenLemmas.{overwritten_by_numbers, last_store_number-is, IsLastWriter, IsLastFlush, last_flush-tells}
 use Rattle.pmt_lines.specs.declared.line_findings.Scan.{Scan}
 use Rattle.pmt_lines.specs.declared.line_findings.Ending.{Ending}
-use Rattle.pmt_lines.specs.LineFindings.{IsLineFinding}
-use Rattle.pmt_lines.specs.Jobs.{IsEnding, IsAmong, AreAbove, AreStoresAt, found_if, overwritten_by, never_persisted_of}
+use Rattle.pmt_lines.specs.Jobs.{IsLineFinding, IsEnding, IsAmong, AreAbove, AreStoresAt, found_if, overwritten_by, never_persisted_of}
 use Rattle.pmt_lines.proofs.TraceLemmas.{IsSize, size-of_format, store-of_trace, byte-line, byte-from_writes, writes-from_byte}
 use Rattle.pmt_lines.proofs.ScanLemmas.{IsScan, IsTable}
 use Rattle.pmt_lines.proofs.FindingLists.{has-append, has-left, has-right, ordered-append, has-overwritten, overwritten-has, overwritten-ordered, has-if, if-has, if-ordered}

@@ -1,11 +1,7 @@
 -- The jobs after the next event.
 use Rattle.std.proofs.Common.{◌≡◌, ◌≢◌, ℕ, suc, ◌<◌, List, [], ◌∷◌, ◌++◌, length, get_or, set, refl, sym, ap, subst, ◌∙◌, arith}
 use Rattle.std.proofs.lemmas.List.{length-set}
-use Rattle.pmt_model.specs.declared.event.Event.{Event}
-use Rattle.pmt_model.specs.Machine.{Act, Flushes, Fences}
-use Rattle.pmt_model.specs.Traces.{Recording, act, IsAct, history}
-use Rattle.pmt_model.specs.Pushing.{with_event}
-use Rattle.pmt_model.specs.Fronts.{open_mark}
+use Rattle.pmt_laws.specs.Prelude.{Event, Act, Flushes, Fences, Recording, act, IsAct, history, with_event, open_mark}
 use Rattle.pmt_lines.specs.declared.step.StepKind.{StepKind}
 use Rattle.pmt_lines.specs.declared.step.StepKind.TheVariants.{Store, Flush, Clflush, Fence}
 use Rattle.pmt_lines.specs.declared.step.Step.{Step}

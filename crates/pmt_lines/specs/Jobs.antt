@@ -1,22 +1,26 @@
 -- Jobs of lines and of fences: what they are of a trace, how they are made, run and told.
-use Rattle.std.specs.Prelude.{◌≡◌, ◌≢◌, ℕ, ◌-◌, ◌<◌, List, [], ◌∷◌, length, Some, None, ◌↔◌, Bool, true, false, ◌+◌, ◌%◌, ◌^◌, ◌≤◌, ◌++◌, ◌⊎◌, nat_le, nat_lt, max, if◌then◌else◌, map, slice_index, unwrap_or, All, slice_index_or, slice_set}
-use Rattle.std.specs.List.{AllByRecursion}
-use Rattle.pmt_model.specs.declared.event.Event.{Event}
-use Rattle.pmt_model.specs.Values.{Written}
-use Rattle.pmt_model.specs.Machine.{Stores, Flushes, Clflushes, Fences, Act}
-use Rattle.pmt_model.specs.Traces.{Recording, event, IsAct, history, event_limit, IsTrace, lines_of, has_line, with_line}
-use Rattle.pmt_model.specs.Fronts.{open_mark, front_at}
+use Rattle.std.specs.Prelude.{◌≡◌, ℕ, ◌⊎◌, ◌↔◌, IsTrue, List, ◌≢◌, ◌-◌, ◌<◌, [], ◌∷◌, length, Some, None, Bool, true, false, ◌+◌, ◌%◌, ◌^◌, ◌≤◌, ◌++◌, nat_le, nat_lt, max, if◌then◌else◌, map, slice_index, unwrap_or, All, slice_index_or, slice_set}
+use Rattle.pmt_laws.specs.Prelude.{Finding, Overwritten, NeverPersisted, RedundantFlush, FenceWithoutFlush, Recording, IsNeverPersisted, IsFlushedAfter, IsRedundantFlush, IsRedundantClflush, IsOverwritten, InReportOrder, HasFinding, Event, Written, Stores, Flushes, Clflushes, Fences, Act, event, IsAct, history, event_limit, IsTrace, lines_of, has_line, with_line, open_mark, front_at, IsEmptyFence, last_flush, IsRising, Has, AllByRecursion}
+use Rattle.pmt_marks.specs.Lines.{Line, Follows, mark_in}
 use Rattle.pmt_lines.specs.declared.step.StepKind.{StepKind}
 use Rattle.pmt_lines.specs.declared.step.StepKind.TheVariants.{Store, Flush, Clflush, Fence}
 use Rattle.pmt_lines.specs.declared.step.Step.{Step}
-use Rattle.pmt_model.specs.Findings.{IsEmptyFence, last_flush}
-use Rattle.pmt_model.specs.Selections.{IsRising, Has}
-use Rattle.pmt_marks.specs.Lines.{Line, Follows, mark_in}
-use Rattle.pmt_model.specs.declared.finding.Finding.{Finding}
-use Rattle.pmt_lines.specs.LineFindings.{AreLineFindings}
-use Rattle.pmt_model.specs.declared.finding.Finding.TheVariants.{Overwritten, NeverPersisted, RedundantFlush}
 use Rattle.pmt_lines.specs.declared.line_findings.Scan.{Scan}
 use Rattle.pmt_lines.specs.declared.line_findings.Ending.{Ending}
+
+-- The finding is one of the trace, and of line l. A fence without flush is of no line.
+abbrev pub IsLineFinding : Recording → ℕ → Finding → Type 0
+IsLineFinding T l (Overwritten earlier later) = (o : IsOverwritten T earlier later) × (o.line ≡ l)
+IsLineFinding T l (NeverPersisted i flushed) = IsNeverPersisted T l i × (IsTrue flushed ↔ IsFlushedAfter T l i)
+IsLineFinding T l (RedundantFlush i) = ((t : ℕ) × IsRedundantFlush T t l i) ⊎ IsRedundantClflush T l i
+IsLineFinding T l (FenceWithoutFlush i) = ⊥
+
+-- The findings of line l in report order, and no others.
+pub record AreLineFindings (T : Recording) (l : ℕ) (findings : List Finding) : Type 0 where
+  pub ordered : InReportOrder findings
+  pub just : (f : Finding) → HasFinding findings f ↔ IsLineFinding T l f
+
+-- ---- Jobs of lines and of fences: what they are of a trace, how they are made, run and told
 
 -- Event n is this kind of step for line l. The job of a line has fences by any thread.
 abbrev pub IsKind : Recording → ℕ → ℕ → ℕ → StepKind → Type 0

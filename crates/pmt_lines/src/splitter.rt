@@ -1,11 +1,7 @@
 //! Where each event of a trace goes while it is split.
 ghost use Rattle.std.specs.Prelude.{◌≡◌, ℕ, ◌<◌, ◌≤◌, map, vec_len, All, IfOk, OnOk, Some, true, not, nat_eq, slice_get};
-ghost use Rattle.std.specs.List.{IsDistinct, list_any};
 ghost use Rattle.indexmap.specs.IndexSet.{insert_key};
-ghost use Rattle.pmt_model.specs.declared.event.Event.{Event};
-ghost use Rattle.pmt_model.specs.Machine.{Flushes, Fences, Asserts};
-ghost use Rattle.pmt_model.specs.Pushing.{empty, with_event};
-ghost use Rattle.pmt_model.specs.Traces.{Recording, event_limit, act};
+ghost use Rattle.pmt_laws.specs.Prelude.{Event, Flushes, Fences, Asserts, empty, with_event, Recording, event_limit, act, IsDistinct, list_any};
 ghost use Rattle.pmt_lines.specs.Jobs.{IsStepKind, line_in, IsSplit, IsAccess, TakesOnLine, EndBefore, EndsAt};
 ghost use Rattle.pmt_lines.specs.Splitters.{HasTaken, IsTaking};
 

@@ -1,7 +1,6 @@
 //! Splitting a trace into jobs by line.
 ghost use Rattle.std.specs.Prelude.{◌≡◌, ◌<◌, length, IfOk, IfErr, IfSome, OnOk};
-ghost use Rattle.pmt_model.specs.Pushing.{with_event};
-ghost use Rattle.pmt_model.specs.Traces.{event_limit, IsEventIn};
+ghost use Rattle.pmt_laws.specs.Prelude.{with_event, event_limit, IsEventIn};
 ghost use Rattle.pmt_text.specs.Coming.{ComesWhole};
 ghost use Rattle.pmt_text.specs.Sources.{CountsReads};
 ghost use Rattle.pmt_lines.specs.Jobs.{IsSplit};

@@ -2,11 +2,9 @@
 use Rattle.std.proofs.Common.{◌≡◌, ◌≢◌, ℕ, ◌≤◌, ◌⊎◌, inl, inr, Bool, true, false, List, [], ◌∷◌, Some, None, refl, sym, ap, ◌∙◌, arith}
 use Rattle.std.specs.Prelude.{◌==◌, ◌&&◌, if◌then◌else◌, max, unwrap_or}
 use Rattle.std.proofs.lemmas.Bool.{eq-eqb, ne_eqb, eqb-true, cases_eq}
-use Rattle.pmt_model.specs.Machine.{Act, Stores, Flushes, Clflushes, Fences, Asserts, count}
-use Rattle.pmt_model.specs.Fronts.{mark, open_mark, front}
+use Rattle.pmt_laws.specs.Prelude.{Act, Stores, Flushes, Clflushes, Fences, Asserts, count, mark, open_mark, front}
 use Rattle.pmt_laws.proofs.Histories.{mark-le-count}
-use Rattle.pmt_marks.specs.Lines.{Line, Follows, mark_in, Completes}
-use Rattle.pmt_marks.specs.Others.{LineStaysUnchanged}
+use Rattle.pmt_marks.specs.Lines.{Line, Follows, mark_in, Completes, LineStaysUnchanged}
 
 -- a thread's last mark is open, or in the front
 abbrev IsSettled : ℕ → ℕ → List Act → Type 0

@@ -1,8 +1,6 @@
--- What is kept of one line, and when that is the line's state after a history.
+-- What is kept of one line, when that is its state after a history, and which acts leave it.
 use Rattle.std.specs.Prelude.{◌≡◌, ◌≢◌, ℕ, ◌<◌, ◌≤◌, ◌==◌, max, if◌then◌else◌, List, [], ◌∷◌, length, slice_index_or, Option, Some, None, unwrap_or}
-use Rattle.pmt_model.specs.Machine.{Act, count}
-use Rattle.pmt_model.specs.Traces.{event_limit}
-use Rattle.pmt_model.specs.Fronts.{front, open_mark}
+use Rattle.pmt_laws.specs.Prelude.{Act, count, event_limit, front, open_mark, Stores, Flushes, Clflushes, Fences, Asserts}
 use Rattle.pmt_marks.specs.declared.mark.Mark.{Mark}
 
 -- What contracts see of the state of a line: the stores so far, its front, and the flushes whose fences are to come.
@@ -73,3 +71,17 @@ pub record Completes (t : ℕ) (old new : Line) : Type 0 where
   pub count : new.count ≡ old.count
   pub front : new.front ≡ max old.front (unwrap_or (mark_in t old.marks) 0)
   pub marks : ChangesMark t None old.marks new.marks
+
+-- The act concerns other lines alone: it stores or flushes another one, or it is a fence by a thread that has not flushed line
+-- l since its last fence.
+abbrev pub LeavesLineUnchanged : ℕ → List Act → Act → Type 0
+LeavesLineUnchanged l history (Stores k w) = k ≢ l
+LeavesLineUnchanged l history (Flushes t k) = k ≢ l
+LeavesLineUnchanged l history (Clflushes k) = k ≢ l
+LeavesLineUnchanged l history (Fences t) = open_mark t l history ≡ None
+LeavesLineUnchanged l history Asserts = Unit {0}
+
+-- After such an act the state is still that of the line.
+abbrev pub LineStaysUnchanged : Type 0
+LineStaysUnchanged =
+    (l : ℕ) (history : List Act) (line : Line) (a : Act) → LeavesLineUnchanged l history a → Follows l history line → Follows l (a ∷ history) line

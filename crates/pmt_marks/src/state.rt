@@ -1,8 +1,6 @@
 //! The state of one line: its count, its front and the marks of threads.
 ghost use Rattle.std.specs.Prelude.{◌≡◌, ℕ, ◌+◌, ◌<◌, ◌↔◌, List, [], ◌∷◌, IsTrue, IsOk, IsSome, None, IfOk, OnOk, OnErr};
-ghost use Rattle.pmt_model.specs.Machine.{Act, Stores, Flushes, Clflushes, Fences};
-ghost use Rattle.pmt_model.specs.Traces.{event_limit};
-ghost use Rattle.pmt_model.specs.Values.{Written};
+ghost use Rattle.pmt_laws.specs.Prelude.{Act, Stores, Flushes, Clflushes, Fences, event_limit, Written};
 ghost use Rattle.pmt_marks.specs.Lines.{IsLine, Follows, mark_in, Marks, Completes};
 
 use crate::mark::{Mark, set_mark, stores_of, take_mark};

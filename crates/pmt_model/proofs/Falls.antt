@@ -1,11 +1,8 @@
 -- Where a list of numbers stops rising.
-use Rattle.std.proofs.Common.{◌≡◌, ℕ, zero, suc, ◌+◌, ◌<◌, ◌≤◌, nat_lt, Bool, true, false, if◌then◌else◌, List, [], ◌∷◌, refl, ap, arith, drop, length, get_or, Option, Some, None, add-one}
+use Rattle.std.proofs.Common.{◌≡◌, ℕ, zero, suc, ◌+◌, ◌≤◌, nat_lt, Bool, true, false, if◌then◌else◌, List, [], ◌∷◌, refl, arith, drop, length, Option, Some, None}
 use Rattle.std.specs.Option.{option_map}
-use Rattle.std.proofs.Math.Seq.{drop-cons}
-use Rattle.std.proofs.lemmas.Bool.{ltb-true, lt-ltb}
-use Rattle.std.proofs.lemmas.Bool.Decides.{nat_tests}
-use Rattle.pmt_model.specs.Selecting.{first_fall}
-use Rattle.pmt_model.specs.Selections.{IsRising}
+use Rattle.std.proofs.lemmas.Bool.{ltb-true}
+use Rattle.pmt_model.specs.Selections.{first_fall, IsRising}
 
 none_before_map : (o : Option ℕ) → option_map (λ p. suc p) o ≡ None → o ≡ None
 none_before_map None e = refl
@@ -23,21 +20,6 @@ no-fall-rises low (k ∷ ks) e = rises_at low k ks (nat_lt low k) refl e (no-fal
 -- Where the list falls, once the first numbers are passed.
 abbrev pub fall_after : ℕ → ℕ → List ℕ → Option ℕ
 fall_after position low ks = option_map (λ p. position + p) (first_fall low (drop position ks))
-
-add_both : (position : ℕ) (o : Option ℕ) → option_map (λ p. position + p) (option_map (λ p. suc p) o) ≡ option_map (λ p. suc position + p) o
-add_both position None = refl
-add_both position (Some x) = ap (λ n. Some n) (omega arith)
-
--- A greater number is passed.
-pub fall-passes : (position low : ℕ) (ks : List ℕ) → position < length ks → low < get_or ks position 0 → fall_after position low ks ≡ fall_after (position + 1) (get_or ks position 0) ks
-fall-passes position low ks h greater =
-    rw (drop-cons ks position 0 h, add-one, lt-ltb low (get_or ks position 0) greater) (add_both position (first_fall (get_or ks position 0) (drop (suc position) ks)))
-
--- A number that is not greater is the first fall.
-pub fall-stops : (position low : ℕ) (ks : List ℕ) → position < length ks → get_or ks position 0 ≤ low → fall_after position low ks ≡ Some position
-fall-stops position low ks h least =
-    let t : nat_lt low (get_or ks position 0) ≡ false = grind (arith, nat_tests) in
-    rw (drop-cons ks position 0 h, t) (ap (λ n. Some n) (omega arith))
 
 -- Past the last number there is no fall.
 pub fall-ends : (position low : ℕ) (ks : List ℕ) → length ks ≤ position → fall_after position low ks ≡ None

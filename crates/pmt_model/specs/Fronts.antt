@@ -1,4 +1,4 @@
--- How many stores to a line are persisted for sure.
+-- Which stores of a line are persisted for sure, and what that leaves to a crash.
 use Rattle.std.specs.Prelude.{◌≡◌, ℕ, ◌==◌, ◌&&◌, ◌<◌, ◌≤◌, ◌⊎◌, max, if◌then◌else◌, List, [], ◌∷◌, Option, Some, None}
 use Rattle.pmt_model.specs.Machine.{Act, Stores, Flushes, Clflushes, Fences, Asserts, count}
 use Rattle.pmt_model.specs.Traces.{Recording, IsAct, history, count_at}
@@ -58,3 +58,7 @@ front l (Asserts ∷ history) = front l history
 
 abbrev pub front_at : Recording → ℕ → ℕ → ℕ
 front_at T l n = front l (history T n)
+
+-- Each count of persisted stores lies between the front and the count of stores.
+abbrev pub InBox : List Act → (ℕ → ℕ) → Type 0
+InBox history v = (l : ℕ) → (front l history ≤ v l) × (v l ≤ count l history)

@@ -1,9 +1,10 @@
--- The flushes and fences that matter, and the selection of them.
-use Rattle.std.specs.Prelude.{◌≡◌, ◌≢◌, ℕ, ◌-◌, ◌<◌, ◌↔◌, ◌==◌, if◌then◌else◌, true, List, [], ◌∷◌}
+-- What is kept of a trace, and that no fewer events would do.
+use Rattle.std.specs.Prelude.{◌≡◌, ◌≢◌, ℕ, ◌-◌, ◌<◌, ◌↔◌, ◌==◌, if◌then◌else◌, true, List, [], ◌∷◌, ◌≤◌, length}
 use Rattle.pmt_model.specs.Machine.{Act, Flushes, Clflushes, Fences}
-use Rattle.pmt_model.specs.Traces.{Recording, IsAct, count_at}
+use Rattle.pmt_model.specs.Traces.{Recording, IsAct, count_at, VectorsAt}
 use Rattle.pmt_model.specs.Fronts.{front_at}
-use Rattle.pmt_model.specs.Selections.{IsRising, Has, always_stays}
+use Rattle.pmt_model.specs.Selections.{IsRising, Has, always_stays, cut, matching_place}
+use Rattle.pmt_model.specs.Findings.{IsRedundantFlush, IsRedundantClflush, IsEmptyFence}
 
 -- A fence that raises the front of some line.
 pub record IsUsefulFence (T : Recording) (j : ℕ) : Type 0 where
@@ -47,3 +48,13 @@ pub record IsKeep (T : Recording) (K : List ℕ) : Type 0 where
 abbrev pub without : List ℕ → ℕ → List ℕ
 without [] k = []
 without (j ∷ js) k = if j == k then without js k else j ∷ without js k
+
+-- At every place of the trace, a crash may leave the same counts of persisted stores as after the selected events so far.
+abbrev pub HasSameVectors : Recording → List ℕ → Type 0
+HasSameVectors T S = (n : ℕ) → n ≤ length T.events → (v : ℕ → ℕ) → VectorsAt T n v ↔ VectorsAt (cut T S) (matching_place S n) v
+
+-- No flush of the trace is redundant, and each fence has a flush by its thread to wait for.
+pub record HasNoWaste (T : Recording) : Type 0 where
+  pub flushes : (t l i : ℕ) → ¬ IsRedundantFlush T t l i
+  pub clflushes : (l i : ℕ) → ¬ IsRedundantClflush T l i
+  pub fences : (i : ℕ) → ¬ IsEmptyFence T i

@@ -1,8 +1,11 @@
--- A trace cut to some of its events.
-use Rattle.std.specs.Prelude.{◌≡◌, ℕ, suc, ◌<◌, ◌≤◌, ◌⊎◌, ◌↔◌, Bool, true, false, nat_le, if◌then◌else◌, List, [], ◌∷◌, length}
-use Rattle.std.specs.List.{filter_map}
+-- A trace cut to some of its events, or to those of one thread.
+use Rattle.std.specs.Prelude.{◌≡◌, ℕ, suc, ◌<◌, ◌≤◌, ◌⊎◌, ◌↔◌, Bool, true, false, nat_le, if◌then◌else◌, List, [], ◌∷◌, length, nat_lt, Option, Some, None, ◌==◌, slice_get}
+use Rattle.std.specs.List.{filter_map, AllByRecursion}
+use Rattle.std.specs.Option.{option_map}
 use Rattle.pmt_model.specs.Machine.{Act, Stores, Flushes, Clflushes, Fences, Asserts, Image}
 use Rattle.pmt_model.specs.Traces.{Recording, event, IsAct, CrashAt, VectorsAt}
+use Rattle.pmt_model.specs.declared.event.Event.{Event}
+use Rattle.pmt_model.specs.declared.event.Op.{Op}
 
 -- The numbers rise, the first from above low.
 abbrev pub IsRising : ℕ → List ℕ → Type 0
@@ -40,3 +43,22 @@ matching_place (k ∷ ks) n = if nat_le k n then suc (matching_place ks n) else 
 pub record IsFaithful (T : Recording) (K : List ℕ) (n : ℕ) : Type 0 where
   pub images : (image : Image) → CrashAt T n image ↔ CrashAt (cut T K) (matching_place K n) image
   pub vectors : (v : ℕ → ℕ) → VectorsAt T n v ↔ VectorsAt (cut T K) (matching_place K n) v
+
+-- The first position, from 0, whose number is not greater than the one before it, the first being compared with low.
+abbrev pub first_fall : ℕ → List ℕ → Option ℕ
+first_fall low [] = None
+first_fall low (k ∷ ks) = if nat_lt low k then option_map (λ p. suc p) (first_fall k ks) else Some 0
+
+-- The numbers and ops of the events of thread t, the first event having the number n.
+abbrev pub part_from : ℕ → ℕ → List Event → List (ℕ × Op)
+part_from n t [] = []
+part_from n t (e ∷ es) = if e.thread == t then (n, e.op) ∷ part_from (suc n) t es else part_from (suc n) t es
+
+-- The part of thread t in the events.
+abbrev pub part : ℕ → List Event → List (ℕ × Op)
+part t events = part_from 1 t events
+
+-- The events are an interleaving of these tapes, tape k being the part of thread k.
+pub record IsInterleaving (tapes : List (List (ℕ × Op))) (events : List Event) : Type 0 where
+  pub whose : AllByRecursion (λ (e : Event). e.thread < length tapes) events
+  pub parts : (t : ℕ) → t < length tapes → slice_get tapes t ≡ Some (part t events)

@@ -1,12 +1,13 @@
--- A trace, its numbered events, and what a crash at one of its places leaves.
-use Rattle.std.specs.Prelude.{◌≡◌, ℕ, zero, suc, ◌<◌, ◌≤◌, ◌==◌, ◌||◌, Bool, true, false, if◌then◌else◌, List, [], ◌∷◌, ◌++◌, length, Option, Some, None, slice_get, take, map, reverse}
+-- Traces: their numbered events, what a crash at a place leaves, and what one more event gives.
+use Rattle.std.specs.Prelude.{◌≡◌, ℕ, zero, suc, ◌<◌, ◌≤◌, ◌==◌, ◌||◌, Bool, true, false, if◌then◌else◌, List, [], ◌∷◌, ◌++◌, length, Option, Some, None, slice_get, take, map, reverse, Result, Ok, Err}
 use Rattle.std.specs.List.{AllByRecursion}
 use Rattle.pmt_model.specs.declared.event.Event.{Event}
 use Rattle.pmt_model.specs.declared.event.Op.{Op}
 use Rattle.pmt_model.specs.declared.event.Op.TheVariants.{Store, Clwb, ClflushOpt, Clflush, Sfence, Mfence, IsPersist, IsOrderedBefore}
-use Rattle.pmt_model.specs.Formats.{IsFormat}
-use Rattle.pmt_model.specs.Values.{Layout, line_of, IsStore, IsAddress, IsRange}
+use Rattle.pmt_model.specs.Values.{IsFormat, Layout, line_of, IsStore, IsAddress, IsRange}
 use Rattle.pmt_model.specs.Machine.{Act, Stores, Flushes, Clflushes, Fences, Asserts, Image, count, Crash, Vectors}
+use Rattle.pmt_model.specs.declared.fault.PushError.{PushError}
+use Rattle.pmt_model.specs.declared.fault.PushError.TheVariants.{NotInFormat, Full, OutOfMemory}
 
 -- What contracts see of a trace.
 pub record Recording : Type 0 where
@@ -107,3 +108,23 @@ lines_of (Flushes t l ∷ history) = with_line l (lines_of history)
 lines_of (Clflushes l ∷ history) = with_line l (lines_of history)
 lines_of (Fences t ∷ history) = lines_of history
 lines_of (Asserts ∷ history) = lines_of history
+
+-- ---- What adding an event to a trace gives
+
+abbrev pub empty : Layout → Recording
+empty format = record { format = format; events = [] }
+
+-- The trace with the event at its end.
+abbrev pub with_event : Recording → Event → Recording
+with_event T e = record { format = T.format; events = T.events ++ e ∷ [] }
+
+-- The trace with more events at its end.
+abbrev pub with_events : Recording → List Event → Recording
+with_events T more = record { format = T.format; events = T.events ++ more }
+
+-- The event is added, or the trace stays and the first check that failed is told.
+abbrev pub PushGives : Recording → Event → Result (Unit {0}) PushError → Recording → Type 0
+PushGives T e (Ok u) new = (in_format T.format e.op ≡ true) × (length T.events < event_limit) × (new ≡ with_event T e)
+PushGives T e (Err NotInFormat) new = (in_format T.format e.op ≡ false) × (new ≡ T)
+PushGives T e (Err Full) new = (in_format T.format e.op ≡ true) × (length T.events ≡ event_limit) × (new ≡ T)
+PushGives T e (Err OutOfMemory) new = (in_format T.format e.op ≡ true) × (length T.events < event_limit) × (new ≡ T)

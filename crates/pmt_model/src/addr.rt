@@ -1,6 +1,6 @@
 //! Addresses.
 ghost use Rattle.std.specs.Prelude.{◌≡◌, ℕ, ◌^◌, ◌<◌};
-ghost use Rattle.pmt_model.specs.Constructing.{address_of};
+ghost use Rattle.pmt_model.specs.Values.{address_of};
 
 use crate::fault::OpError;
 use std::fmt;

@@ -1,7 +1,6 @@
 //! The format of a trace: its version and the size of its cache lines.
 ghost use Rattle.std.specs.Prelude.{◌≡◌, ◌≢◌, ℕ, ◌<◌, ◌≤◌};
-ghost use Rattle.pmt_model.specs.Formats.{IsFormat, first_version, second_version};
-ghost use Rattle.pmt_model.specs.Values.{line_of as line_in};
+ghost use Rattle.pmt_model.specs.Values.{IsFormat, first_version, second_version, line_of as line_in};
 
 use crate::addr::Addr;
 use crate::fault::FormatError;
@@ -19,7 +18,7 @@ impl Model for Format {
 
     ghost Value = { Layout };
 
-    ghost use Rattle.pmt_model.specs.Formats.{IsFormat};
+    ghost use Rattle.pmt_model.specs.Values.{IsFormat};
 
     ghost view = { λ f. record { version = f.version; line_size = f.line_size } };
 

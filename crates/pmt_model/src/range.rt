@@ -1,7 +1,6 @@
 //! The ranges of assertions.
 ghost use Rattle.std.specs.Prelude.{◌≡◌, ◌+◌, ◌^◌, ◌≤◌};
-ghost use Rattle.pmt_model.specs.Constructing.{range_of};
-ghost use Rattle.pmt_model.specs.Values.{IsRange};
+ghost use Rattle.pmt_model.specs.Values.{range_of, IsRange};
 
 use crate::addr::Addr;
 use crate::fault::OpError;

@@ -1,7 +1,6 @@
 //! Selections of events.
 ghost use Rattle.std.specs.Prelude.{◌≡◌, ◌==◌, length, Some, None, MatchResult};
-ghost use Rattle.pmt_model.specs.Selecting.{first_fall};
-ghost use Rattle.pmt_model.specs.Selections.{IsRising};
+ghost use Rattle.pmt_model.specs.Selections.{first_fall, IsRising};
 
 use crate::fault::SelectionError;
 use std::marker::Model;

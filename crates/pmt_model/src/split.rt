@@ -1,6 +1,6 @@
 //! Cutting a long store at the words.
 ghost use Rattle.std.specs.Prelude.{◌≡◌, MatchResult, IfOk};
-ghost use Rattle.pmt_model.specs.Splitting.{AreWordPieces, IsCutInWords, SplitRefuses, IsSplittable};
+ghost use Rattle.pmt_model.specs.Ops.{AreWordPieces, IsCutInWords, SplitRefuses, IsSplittable};
 
 use crate::event::Op;
 use crate::fault::SplitStoreError;

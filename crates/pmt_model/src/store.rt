@@ -1,7 +1,6 @@
 //! The bytes of a store, and where they go.
 ghost use Rattle.std.specs.Prelude.{◌≡◌, ◌+◌, ◌%◌, ◌≤◌, length};
-ghost use Rattle.pmt_model.specs.Constructing.{payload_of, word_store_of};
-ghost use Rattle.pmt_model.specs.Values.{AreBytes, IsStore};
+ghost use Rattle.pmt_model.specs.Values.{payload_of, word_store_of, AreBytes, IsStore};
 
 use crate::addr::Addr;
 use crate::fault::OpError;

@@ -1,10 +1,9 @@
 //! Traces.
 ghost use Rattle.std.specs.Prelude.{◌≡◌, ◌≤◌, ◌==◌, length, IfOk};
 ghost use Rattle.std.specs.List.{AllByRecursion};
-ghost use Rattle.pmt_model.specs.Formats.{first_version};
+ghost use Rattle.pmt_model.specs.Values.{first_version};
 ghost use Rattle.pmt_model.specs.Selections.{cut};
-ghost use Rattle.pmt_model.specs.Traces.{event as event_at, IsTrace};
-ghost use Rattle.pmt_model.specs.Pushing.{PushGives, empty};
+ghost use Rattle.pmt_model.specs.Traces.{event as event_at, IsTrace, PushGives, empty};
 
 use crate::event::Event;
 use crate::fault::{OutOfMemory, PushError};

@@ -4,9 +4,8 @@ use Rattle.std.specs.List.{AllByRecursion, flat_map}
 use Rattle.std.proofs.Math.Seq.{take-append_seam}
 use Rattle.std.proofs.lemmas.Bool.{cond-false}
 use Rattle.std.proofs.lemmas.Grind.{flat_map-append}
-use Rattle.pmt_page.specs.Blocks.{separated_byte, array_of_lines}
-use Rattle.pmt_page.specs.Numbers.{listed}
-use Rattle.pmt_page.specs.Telling.{has_lf, LinesBecomeArray}
+use Rattle.pmt_page.specs.Pages.{separated_byte, array_of_lines, has_lf, LinesBecomeArray}
+use Rattle.pmt_page.specs.Columns.{listed}
 
 neither : (a b : Bool) → (a || b) ≡ false → (a ≡ false) × (b ≡ false)
 neither true b e = absurd (true≢false e)

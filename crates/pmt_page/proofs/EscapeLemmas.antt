@@ -2,7 +2,7 @@
 use Rattle.std.proofs.Common.{◌≡◌, ℕ, ◌==◌, ◌||◌, ◌∷◌, Bool, true, false, if◌then◌else◌, List, [], codes, refl, ap, ◌∙◌}
 use Rattle.std.specs.List.{list_any}
 use Rattle.std.proofs.lemmas.List.Folds.{list_any-append}
-use Rattle.pmt_page.specs.Escapes.{embedded, embedded_byte}
+use Rattle.pmt_page.specs.Pages.{embedded, embedded_byte}
 
 abbrev is_less_than : ℕ → Bool
 is_less_than c = c == 60

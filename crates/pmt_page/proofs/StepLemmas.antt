@@ -4,7 +4,7 @@ use Rattle.std.specs.Int.Digits.{digits_of, AllBelowBase}
 use Rattle.std.proofs.lemmas.Bool.{cases_lt, cond-true, cond-false}
 use Rattle.std.proofs.lemmas.Bool.Decides.{nat_tests}
 use Rattle.std.proofs.lemmas.Int.Digits.{all_below_base_digits_of, same_from_digits_of}
-use Rattle.pmt_page.specs.Numbers.{digit, short, step, steps}
+use Rattle.pmt_page.specs.Columns.{digit, short, step, steps}
 use Rattle.pmt_page.proofs.SplittingLemmas.{Lacks, lacks-append, split}
 
 -- ---- One number

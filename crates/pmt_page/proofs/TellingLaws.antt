@@ -3,12 +3,8 @@ use Rattle.std.proofs.Common.{◌≡◌, ℕ, ◌/◌, ◌%◌, List, [], ◌∷
 use Rattle.std.specs.List.{AllByRecursion, flat_map}
 use Rattle.std.proofs.lemmas.Bool.Decides.{nat_tests}
 use Rattle.std.proofs.lemmas.Grind.{flat_map-append}
-use Rattle.pmt_model.specs.declared.event.Event.{Event}
-use Rattle.pmt_model.specs.declared.event.Op.{Op}
-use Rattle.pmt_model.specs.declared.event.Op.TheVariants.{Store, Clwb, ClflushOpt, Clflush, Sfence, Mfence, IsPersist, IsOrderedBefore}
-use Rattle.pmt_model.specs.declared.finding.Verdict.{Verdict}
-use Rattle.pmt_model.specs.Traces.{IsEvent, IsOp}
-use Rattle.pmt_text.specs.Fields.{paired}
+use Rattle.pmt_text.specs.Prelude.{Event, Op, Store, Clwb, ClflushOpt, Clflush, Sfence, Mfence, IsPersist, IsOrderedBefore, Verdict, IsEvent, IsOp}
+use Rattle.pmt_text.specs.Judging.{paired}
 use Rattle.pmt_text.specs.Spelling.{glyph, hex_pair, hex_bytes}
 use Rattle.pmt_text.proofs.FieldLemmas.{AreSmall, paired-hex_bytes}
 use Rattle.pmt_page.specs.declared.events.NumberColumn.{NumberColumn}
@@ -16,7 +12,7 @@ use Rattle.pmt_page.specs.declared.events.NumberColumn.TheVariants.{Thread, Addr
 use Rattle.pmt_explain.specs.declared.dropped_event.Dropped.{Dropped}
 use Rattle.pmt_page.specs.declared.known.SafePlace.{SafePlace}
 use Rattle.pmt_page.specs.Columns.{op_letter, op_column, numbers_of, stored_bytes, number_column, value_column, found_columns, columns_with}
-use Rattle.pmt_page.specs.Telling.{ColumnsTellEvents}
+use Rattle.pmt_page.specs.Pages.{ColumnsTellEvents}
 use Rattle.pmt_page.proofs.SplittingLemmas.{Lacks, lacks-flat_map, strip, next, split, parts-append}
 use Rattle.pmt_page.proofs.StepLemmas.{steps-lack, steps-same}
 use Rattle.pmt_page.proofs.ReadingBack.{read_back, read-events}

@@ -2,8 +2,7 @@
 ghost use Rattle.std.specs.Prelude.{◌≡◌, ◌++◌, ◌∷◌, [], codes, IfOk, OnOk};
 ghost use Rattle.sha2.specs.Sha256.{sha256};
 ghost use Rattle.pmt_text.specs.Spelling.{hex_bytes, numeral};
-ghost use Rattle.pmt_page.specs.Blocks.{about, about_kept, flags, truth};
-ghost use Rattle.pmt_page.specs.Escapes.{quoted};
+ghost use Rattle.pmt_page.specs.Pages.{about, about_kept, flags, truth, quoted};
 
 use crate::columns::{has_ranges, has_values};
 use crate::digits::push_bytes;

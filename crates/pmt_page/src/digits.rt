@@ -1,7 +1,7 @@
 //! Bytes as digits of base 16, and numbers as digits of base 64.
 ghost use Rattle.std.specs.Prelude.{◌≡◌, ◌++◌, ◌<◌, OnOk};
 ghost use Rattle.pmt_text.specs.Spelling.{glyph as glyph_of, hex_bytes, hex_pair};
-ghost use Rattle.pmt_page.specs.Numbers.{digit as digit_of, short};
+ghost use Rattle.pmt_page.specs.Columns.{digit as digit_of, short};
 
 use pmt_model::OutOfMemory;
 

@@ -1,7 +1,7 @@
 //! Texts in JSON and in HTML.
 ghost use Rattle.std.specs.Prelude.{◌≡◌, ℕ, List, ◌++◌, OnOk};
 ghost use Rattle.std.specs.List.{flat_map};
-ghost use Rattle.pmt_page.specs.Escapes.{embedded, embedded_byte, html, html_byte, quoted, quoted_byte};
+ghost use Rattle.pmt_page.specs.Pages.{embedded, embedded_byte, html, html_byte, quoted, quoted_byte};
 
 use crate::digits::push_pair;
 use pmt_model::OutOfMemory;

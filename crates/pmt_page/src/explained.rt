@@ -1,7 +1,7 @@
 //! The block of what `explain` tells.
 ghost use Rattle.std.specs.Prelude.{◌≡◌, ◌++◌, IfOk, OnOk};
 ghost use Rattle.std.specs.List.{flat_map};
-ghost use Rattle.pmt_page.specs.Blocks.{array_of_lines, separated_byte};
+ghost use Rattle.pmt_page.specs.Pages.{array_of_lines, separated_byte};
 
 use pmt_model::OutOfMemory;
 use std::alloc::Global;

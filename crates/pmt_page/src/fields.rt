@@ -1,8 +1,7 @@
 //! Columns of numbers.
 ghost use Rattle.std.specs.Prelude.{◌≡◌, ◌∷◌, ◌++◌, [], map, OnOk};
 ghost use Rattle.std.specs.List.{flat_map};
-ghost use Rattle.pmt_page.specs.Columns.{safe_field, verdict_letter as letter_of};
-ghost use Rattle.pmt_page.specs.Numbers.{listed, step, steps};
+ghost use Rattle.pmt_page.specs.Columns.{safe_field, verdict_letter as letter_of, listed, step, steps};
 
 use crate::digits::push_short;
 use crate::known::SafePlace;

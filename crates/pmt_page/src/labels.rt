@@ -1,9 +1,8 @@
 //! What the events are called.
 ghost use Rattle.std.specs.Prelude.{◌≡◌, ◌∷◌, ◌++◌, map, IfOk, OnOk};
 ghost use Rattle.std.specs.List.{flat_map};
-ghost use Rattle.pmt_page.specs.Blocks.{AreTexts, IsLabelsBlock};
-ghost use Rattle.pmt_page.specs.Escapes.{quoted};
-ghost use Rattle.pmt_page.specs.Numbers.{listed, steps};
+ghost use Rattle.pmt_page.specs.Pages.{AreTexts, IsLabelsBlock, quoted};
+ghost use Rattle.pmt_page.specs.Columns.{listed, steps};
 
 use crate::escapes::push_quoted;
 use crate::fields::push_steps;

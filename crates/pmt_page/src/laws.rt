@@ -1,8 +1,7 @@
 //! Laws of the page.
 ghost use Rattle.std.specs.Prelude.{◌≡◌, ℕ, ◌==◌, List, false};
 ghost use Rattle.std.specs.List.{list_any};
-ghost use Rattle.pmt_page.specs.Escapes.{embedded};
-ghost use Rattle.pmt_page.specs.Telling.{ColumnsTellEvents, LinesBecomeArray};
+ghost use Rattle.pmt_page.specs.Pages.{embedded, ColumnsTellEvents, LinesBecomeArray};
 
 /// No `<` stands in JSON as the page has it, so it can not end the element that it stands in.
 pub fn embedded_has_no_less_than()

@@ -1,7 +1,6 @@
 //! The page, laid together of its parts.
 ghost use Rattle.std.specs.Prelude.{◌≡◌, ◌++◌, IfOk, OnOk};
-ghost use Rattle.pmt_page.specs.Pages.{page, parts_of, source_data, still, told_data, trace_data};
-ghost use Rattle.pmt_page.specs.Pages.{filled as filled_with};
+ghost use Rattle.pmt_page.specs.Pages.{page, parts_of, source_data, still, told_data, trace_data, filled as filled_with};
 
 use crate::escapes::{push_embedded, push_html};
 use crate::template::{Template, own_template};

@@ -1,8 +1,8 @@
 //! Lines of source files.
 ghost use Rattle.std.specs.Prelude.{◌≡◌, ◌∷◌, ◌++◌, IfOk, OnOk};
 ghost use Rattle.std.specs.List.{flat_map};
-ghost use Rattle.pmt_page.specs.Blocks.{source_file, source_part, sources_block};
-ghost use Rattle.pmt_page.specs.Numbers.{listed};
+ghost use Rattle.pmt_page.specs.Pages.{source_file, source_part, sources_block};
+ghost use Rattle.pmt_page.specs.Columns.{listed};
 
 use crate::about::{push_count, push_string, push_truth};
 use pmt_model::OutOfMemory;

@@ -1,12 +1,8 @@
 -- The bytes that a store writes are of its line.
-use Rattle.std.proofs.Common.{◌≡◌, ℕ, zero, suc, List, [], ◌∷◌, Some, refl, true, arith}
+use Rattle.std.proofs.Common.{◌≡◌, ℕ, zero, suc, List, [], ◌∷◌, Some, refl, true, arith, subst}
 use Rattle.std.specs.Prelude.{slice_get}
-use Rattle.std.specs.List.{AllByRecursion}
 use Rattle.std.proofs.lemmas.Option.{none-some, same_Some}
-use Rattle.std.proofs.Common.{subst}
-use Rattle.pmt_model.specs.Values.{Written, line_of}
-use Rattle.pmt_model.specs.Machine.{Stores, writes}
-use Rattle.pmt_model.specs.Traces.{Recording, IsTrace, IsEventIn, IsAct}
+use Rattle.pmt_laws.specs.Prelude.{Written, line_of, Stores, writes, Recording, IsTrace, IsEventIn, IsAct, AllByRecursion}
 use Rattle.pmt_tables.proofs.LineLemmas.{writes-line}
 use Rattle.pmt_part_laws.specs.Parts.{IsWellFormed}
 

@@ -1,15 +1,12 @@
 -- The carry at the end of a stretch, by its part.
 use Rattle.std.proofs.Common.{ℕ, inl, inr, List, arith}
 use Rattle.std.proofs.lemmas.Bool.{cases_lt}
-use Rattle.pmt_model.specs.Machine.{Stores, Flushes, Fences}
-use Rattle.pmt_model.specs.Traces.{Recording, IsAct}
-use Rattle.pmt_model.specs.Selections.{Has, cut, matching_place}
+use Rattle.pmt_laws.specs.Prelude.{Stores, Flushes, Fences, Recording, IsAct, Has, cut, matching_place}
 use Rattle.pmt_laws.proofs.Histories.{front-mono}
 use Rattle.pmt_laws.proofs.CutLemmas.{place-mono}
 use Rattle.pmt_slices.specs.Slices.{IsSubsequence}
 use Rattle.pmt_slices.proofs.CuttingLemmas.{kept-act, act-origin, placed-later, later-origin}
-use Rattle.pmt_part_laws.specs.Parts.{IsPending, IsLastOpen, IsCarried, IsPart}
-use Rattle.pmt_part_laws.specs.Laws.{PartCarries}
+use Rattle.pmt_part_laws.specs.Parts.{IsPending, IsLastOpen, IsCarried, IsPart, PartCarries}
 use Rattle.pmt_part_laws.proofs.StepLemmas.{part-subsequence, has-stretch, part-by, store-kept}
 use Rattle.pmt_part_laws.proofs.FrontLemmas.{count-part, front-part}
 use Rattle.pmt_part_laws.proofs.OriginLemmas.{act-back, fence-kept, again-kept}

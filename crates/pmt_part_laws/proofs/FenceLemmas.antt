@@ -2,15 +2,11 @@
 use Rattle.std.proofs.Common.{◌≡◌, ℕ, zero, suc, ◌<◌, ◌≤◌, inl, inr, List, length, subst, arith}
 use Rattle.std.specs.Prelude.{◌⊎◌}
 use Rattle.std.proofs.lemmas.Bool.{cases_lt, cases_eq}
-use Rattle.pmt_model.specs.Machine.{Act, Stores, Flushes, Clflushes, Fences, Asserts}
-use Rattle.pmt_model.specs.Traces.{Recording, IsAct, history}
-use Rattle.pmt_model.specs.Findings.{IsEmptyFence}
-use Rattle.pmt_model.specs.Selections.{Has, cut, matching_place}
+use Rattle.pmt_laws.specs.Prelude.{Act, Stores, Flushes, Clflushes, Fences, Asserts, Recording, IsAct, history, IsEmptyFence, Has, cut, matching_place}
 use Rattle.pmt_laws.proofs.Histories.{act-unique, act-within, history-step}
 use Rattle.pmt_slices.specs.Slices.{IsSubsequence}
 use Rattle.pmt_slices.proofs.CuttingLemmas.{kept-act, act-origin, placed-later, later-origin}
-use Rattle.pmt_part_laws.specs.Parts.{IsPart}
-use Rattle.pmt_part_laws.specs.Laws.{PartEmptyFence}
+use Rattle.pmt_part_laws.specs.Parts.{IsPart, PartEmptyFence}
 use Rattle.pmt_part_laws.proofs.StepLemmas.{part-subsequence, has-stretch}
 use Rattle.pmt_part_laws.proofs.OriginLemmas.{act-back, fence-kept}
 

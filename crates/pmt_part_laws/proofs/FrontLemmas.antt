@@ -2,10 +2,7 @@
 use Rattle.std.proofs.Common.{◌≡◌, ℕ, zero, suc, ◌-◌, ◌<◌, ◌≤◌, inl, inr, Bool, true, false, ◌==◌, List, ◌∷◌, refl, sym, ap, subst, ◌∙◌, eqb-true, arith}
 use Rattle.std.specs.Prelude.{◌⊎◌, if◌then◌else◌}
 use Rattle.std.proofs.lemmas.Bool.{cases_lt}
-use Rattle.pmt_model.specs.Machine.{Act, Stores, Flushes, Clflushes, Fences, Asserts, count}
-use Rattle.pmt_model.specs.Traces.{Recording, IsAct, history, count_at}
-use Rattle.pmt_model.specs.Fronts.{mark, front, front_at}
-use Rattle.pmt_model.specs.Selections.{Has, cut, matching_place}
+use Rattle.pmt_laws.specs.Prelude.{Act, Stores, Flushes, Clflushes, Fences, Asserts, count, Recording, IsAct, history, count_at, mark, front, front_at, Has, cut, matching_place}
 use Rattle.pmt_laws.proofs.Histories.{act-unique, front-mono}
 use Rattle.pmt_laws.proofs.FrontLemmas.{IsMarkOf, mark-reached, mark-greatest, completed-le_front}
 use Rattle.pmt_laws.proofs.LastFlushes.{IsLastFlush, last-flush}
@@ -13,8 +10,7 @@ use Rattle.pmt_laws.proofs.CutLemmas.{place-mono}
 use Rattle.pmt_safety.proofs.StoreLemmas.{count-at_store}
 use Rattle.pmt_slices.specs.Slices.{IsSubsequence}
 use Rattle.pmt_slices.proofs.CuttingLemmas.{kept-act, act-origin, placed-by}
-use Rattle.pmt_part_laws.specs.Parts.{IsCarried, IsPart}
-use Rattle.pmt_part_laws.specs.Laws.{PartFronts}
+use Rattle.pmt_part_laws.specs.Parts.{IsCarried, IsPart, PartFronts}
 use Rattle.pmt_part_laws.proofs.StepLemmas.{part_history, part-subsequence, IsNext, Keeps, Drops, next-step, none-yet, along, onward, store-kept, kept-store}
 
 -- the part counts the stores of a line that are above the front at place q

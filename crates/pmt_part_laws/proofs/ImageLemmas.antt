@@ -2,17 +2,12 @@
 use Rattle.std.proofs.Common.{◌≡◌, ℕ, zero, suc, ◌+◌, ◌-◌, ◌<◌, ◌≤◌, inl, inr, Bool, true, false, List, [], ◌∷◌, length, Some, None, refl, sym, ap, subst, ◌∙◌, arith}
 use Rattle.std.specs.Prelude.{◌↔◌, nat_lt, nat_le, slice_get, if◌then◌else◌}
 use Rattle.std.proofs.lemmas.Bool.{cases_lt, and_parts, ltb-true, lt-ltb, false_from_ne_true}
-use Rattle.pmt_model.specs.Values.{Written, line_of}
-use Rattle.pmt_model.specs.Machine.{Act, Stores, Flushes, Clflushes, Fences, Asserts, Image, count, writes, image_of}
-use Rattle.pmt_model.specs.Traces.{Recording, IsAct, history, count_at, CrashAt}
-use Rattle.pmt_model.specs.Fronts.{front_at}
-use Rattle.pmt_model.specs.Selections.{Has, cut, matching_place}
+use Rattle.pmt_laws.specs.Prelude.{Written, line_of, Act, Stores, Flushes, Clflushes, Fences, Asserts, Image, count, writes, image_of, Recording, IsAct, history, count_at, CrashAt, front_at, Has, cut, matching_place}
 use Rattle.pmt_laws.proofs.Histories.{history-act, history-step, count-mono, front-le-count}
 use Rattle.pmt_laws.proofs.SameFronts.{fronts-are-vectors}
 use Rattle.pmt_safety.proofs.StoreLemmas.{count-at_store}
 use Rattle.pmt_slices.proofs.CuttingLemmas.{act-origin}
-use Rattle.pmt_part_laws.specs.Parts.{IsWellFormed, IsPart}
-use Rattle.pmt_part_laws.specs.Laws.{upon, safe_image, PartImages}
+use Rattle.pmt_part_laws.specs.Parts.{IsWellFormed, IsPart, upon, safe_image, PartImages}
 use Rattle.pmt_part_laws.proofs.ByteLemmas.{byte-line}
 use Rattle.pmt_part_laws.proofs.StepLemmas.{part_history, part-subsequence, along, store-kept, kept-store}
 use Rattle.pmt_part_laws.proofs.FrontLemmas.{count-part}

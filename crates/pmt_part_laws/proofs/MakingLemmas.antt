@@ -2,10 +2,8 @@
 use Rattle.std.proofs.Common.{ℕ, zero, suc, ◌+◌, ◌-◌, ◌<◌, ◌≤◌, inl, inr, List, [], ◌∷◌, ◌++◌, refl, arith}
 use Rattle.std.specs.Prelude.{◌⊎◌, ◌↔◌}
 use Rattle.std.proofs.lemmas.Bool.{cases_lt}
-use Rattle.pmt_model.specs.Traces.{Recording}
-use Rattle.pmt_model.specs.Selections.{IsRising, Has}
-use Rattle.pmt_part_laws.specs.Parts.{IsCarried}
-use Rattle.pmt_part_laws.specs.Laws.{stretch, PartIsMade}
+use Rattle.pmt_laws.specs.Prelude.{Recording, IsRising, Has}
+use Rattle.pmt_part_laws.specs.Parts.{IsCarried, stretch, PartIsMade}
 
 -- one list after the other has the numbers of both
 has-both : (C S : List ℕ) (k : ℕ) → Has (C ++ S) k ↔ (Has C k ⊎ Has S k)

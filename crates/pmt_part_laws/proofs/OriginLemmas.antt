@@ -2,12 +2,7 @@
 use Rattle.std.proofs.Common.{◌≡◌, ℕ, ◌<◌, ◌≤◌, inl, inr, List, refl, sym, subst, le_antisymm, arith}
 use Rattle.std.specs.Prelude.{◌⊎◌}
 use Rattle.std.proofs.lemmas.Bool.{cases_lt}
-use Rattle.pmt_model.specs.Values.{Written}
-use Rattle.pmt_model.specs.Machine.{Act, Stores, Flushes, Clflushes, Fences}
-use Rattle.pmt_model.specs.Traces.{Recording, IsAct, history, count_at}
-use Rattle.pmt_model.specs.Fronts.{mark, front_at}
-use Rattle.pmt_model.specs.Findings.{IsFlushOf, ByFlush, ByClflush}
-use Rattle.pmt_model.specs.Selections.{Has, cut, matching_place}
+use Rattle.pmt_laws.specs.Prelude.{Written, Act, Stores, Flushes, Clflushes, Fences, Recording, IsAct, history, count_at, mark, front_at, IsFlushOf, ByFlush, ByClflush, Has, cut, matching_place}
 use Rattle.pmt_laws.proofs.Histories.{act-unique, count-mono}
 use Rattle.pmt_laws.proofs.FrontLemmas.{mark-greatest, completed-le_front}
 use Rattle.pmt_laws.proofs.LastFlushes.{IsLastFlush, last-flush}

@@ -1,18 +1,13 @@
 -- Stores that are overwritten, in a trace and in the trace cut to a part.
 use Rattle.std.proofs.Common.{◌≡◌, ℕ, zero, suc, ◌<◌, ◌≤◌, inl, inr, refl, sym, subst, ◌∙◌, arith}
 use Rattle.std.proofs.lemmas.Bool.{cases_lt}
-use Rattle.pmt_model.specs.Values.{Written}
-use Rattle.pmt_model.specs.Machine.{Act, Stores, Flushes, Clflushes}
-use Rattle.pmt_model.specs.Traces.{Recording, IsAct, count_at}
-use Rattle.pmt_model.specs.Fronts.{front_at}
-use Rattle.pmt_model.specs.Findings.{IsFlushOf, ByFlush, ByClflush, IsOverwritten}
-use Rattle.pmt_model.specs.Selections.{Has, cut, matching_place}
+use Rattle.pmt_laws.specs.Prelude.{Written, Act, Stores, Flushes, Clflushes, Recording, IsAct, count_at, front_at, IsFlushOf, ByFlush, ByClflush, IsOverwritten, Has, cut, matching_place}
 use Rattle.pmt_laws.proofs.Histories.{act-unique, act-within}
 use Rattle.pmt_laws.proofs.FrontLemmas.{IsFrontOf, front-reached}
 use Rattle.pmt_safety.proofs.StoreLemmas.{store-by, count-at_store}
 use Rattle.pmt_slices.specs.Slices.{IsSubsequence}
 use Rattle.pmt_slices.proofs.CuttingLemmas.{kept-act, act-origin, placed-later, later-origin}
-use Rattle.pmt_part_laws.specs.Laws.{PartOverwrites}
+use Rattle.pmt_part_laws.specs.Parts.{PartOverwrites}
 use Rattle.pmt_part_laws.proofs.ByteLemmas.{byte-line}
 use Rattle.pmt_part_laws.proofs.StepLemmas.{part-subsequence, has-stretch, store-kept}
 use Rattle.pmt_part_laws.proofs.PersistLemmas.{later-kept}

@@ -2,11 +2,7 @@
 use Rattle.std.proofs.Common.{◌≡◌, ℕ, zero, suc, ◌<◌, ◌≤◌, inl, inr, List, [], ◌∷◌, length, refl, sym, ap, subst, subst₂, ◌∙◌, arith}
 use Rattle.std.specs.Prelude.{◌⊎◌}
 use Rattle.std.proofs.lemmas.Bool.{cases_lt}
-use Rattle.pmt_model.specs.Values.{Written}
-use Rattle.pmt_model.specs.Machine.{Act, Stores, Flushes}
-use Rattle.pmt_model.specs.Traces.{Recording, act, IsAct, history, count_at}
-use Rattle.pmt_model.specs.Fronts.{front_at}
-use Rattle.pmt_model.specs.Selections.{Has, cut, matching_place}
+use Rattle.pmt_laws.specs.Prelude.{Written, Act, Stores, Flushes, Recording, act, IsAct, history, count_at, front_at, Has, cut, matching_place}
 use Rattle.pmt_laws.proofs.Histories.{event-some, history-act, act-unique, act-within, count-mono, front-le-count}
 use Rattle.pmt_laws.proofs.CutLemmas.{has-dec, place-low, place-kept, place-dropped}
 use Rattle.pmt_safety.proofs.StoreLemmas.{count-at_store}

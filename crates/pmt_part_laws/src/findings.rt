@@ -1,6 +1,6 @@
 //! What is found in a stretch, by its part.
 
-ghost use Rattle.pmt_part_laws.specs.Laws.{PartEmptyFence, PartFlushedAfter, PartNeverPersists, PartOverwrites, PartRedundantClflush, PartRedundantFlush};
+ghost use Rattle.pmt_part_laws.specs.Parts.{PartEmptyFence, PartFlushedAfter, PartNeverPersists, PartOverwrites, PartRedundantClflush, PartRedundantFlush};
 
 /// A store is overwritten by a store of the stretch exactly if it is in the part, and overwritten there.
 pub fn part_overwrites()

@@ -1,6 +1,6 @@
 //! What a crash may leave, by a part.
 
-ghost use Rattle.pmt_part_laws.specs.Laws.{PartFronts, PartImages, PartVectors};
+ghost use Rattle.pmt_part_laws.specs.Parts.{PartFronts, PartImages, PartVectors};
 
 /// At each place of its stretch, a part has the front and the count of each line less the front at the place where the stretch begins.
 pub fn part_fronts()

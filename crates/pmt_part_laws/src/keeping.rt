@@ -1,6 +1,6 @@
 //! What is kept of a stretch and what is carried at its end, by its part.
 
-ghost use Rattle.pmt_part_laws.specs.Laws.{PartCarries, PartIsMade, PartKeeps};
+ghost use Rattle.pmt_part_laws.specs.Parts.{PartCarries, PartIsMade, PartKeeps};
 
 /// The carry at a place, followed by the events after it up to another, is the part of that stretch.
 pub fn part_is_made()

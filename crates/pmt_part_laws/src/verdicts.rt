@@ -1,6 +1,6 @@
 //! Verdicts by a part.
 
-ghost use Rattle.pmt_part_laws.specs.Laws.{PartAsideFails, PartOrders, PartPersists};
+ghost use Rattle.pmt_part_laws.specs.Parts.{PartAsideFails, PartOrders, PartPersists};
 
 /// Of each isPersist in the stretch, the part has the verdict of the whole trace.
 pub fn part_persists()

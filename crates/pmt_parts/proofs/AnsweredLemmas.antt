@@ -2,13 +2,11 @@
 use Rattle.std.proofs.Common.{◌≡◌, ℕ, zero, suc, ◌+◌, ◌-◌, ◌<◌, ◌≤◌, inl, inr, List, [], ◌∷◌, length, take, drop, slice_range, filter_map, Some, refl, sym, ap, ap₂, subst, ◌∙◌, arith}
 use Rattle.std.specs.Prelude.{slice_get}
 use Rattle.std.proofs.lemmas.Bool.{cases_lt, le-leb}
-use Rattle.pmt_model.specs.declared.event.Event.{Event}
-use Rattle.pmt_model.specs.Traces.{Recording, event}
-use Rattle.pmt_model.specs.Selections.{IsRising, Has, matching_place}
+use Rattle.pmt_laws.specs.Prelude.{Event, Recording, event, IsRising, Has, matching_place}
 use Rattle.pmt_laws.proofs.Histories.{event-some}
 use Rattle.pmt_laws.proofs.CutLemmas.{has-above, place-low}
 use Rattle.pmt_asked.specs.declared.ignoring.ByteRange.{ByteRange}
-use Rattle.pmt_part_laws.specs.Laws.{stretch}
+use Rattle.pmt_part_laws.specs.Parts.{stretch}
 use Rattle.pmt_parts.specs.declared.part.Part.{Part}
 use Rattle.pmt_parts.specs.Making.{IsPartOf}
 use Rattle.pmt_parts.proofs.PartsCarryLemmas.{by-end}

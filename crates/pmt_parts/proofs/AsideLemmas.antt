@@ -1,16 +1,13 @@
 -- Assertions that are set aside, by the part and by the whole.
 use Rattle.std.proofs.Common.{◌≡◌, ℕ, ◌<◌, ◌≤◌, List, sym, subst, ◌∙◌, arith}
-use Rattle.pmt_model.specs.Machine.{Stores}
-use Rattle.pmt_model.specs.Traces.{Recording}
-use Rattle.pmt_model.specs.Selections.{cut, matching_place}
+use Rattle.pmt_laws.specs.Prelude.{Stores, Recording, cut, matching_place}
 use Rattle.pmt_laws.proofs.Histories.{act-within}
 use Rattle.pmt_laws.proofs.CutLemmas.{place-mono}
 use Rattle.pmt_laws.proofs.OverwrittenLemmas.{IsLastWriter, last_store_number-is}
 use Rattle.pmt_slices.specs.Slices.{IsUnwritten, IsSubsequence}
 use Rattle.pmt_slices.proofs.CuttingLemmas.{kept-event, kept-act, act-origin, placed-later, placed-by, later-origin}
 use Rattle.pmt_asked.specs.declared.ignoring.ByteRange.{ByteRange}
-use Rattle.pmt_parts.specs.Making.{IsPartBut}
-use Rattle.pmt_parts.specs.Aside.{IsOlderOrdered, AsideByWhole, AsideIsAll}
+use Rattle.pmt_parts.specs.Making.{IsPartBut, IsOlderOrdered, AsideByWhole, AsideIsAll}
 use Rattle.pmt_parts.proofs.PartsCarryLemmas.{subsequence, has-late}
 
 module _ (T : Recording) (ranges : List ByteRange) (q r : ℕ) (K : List ℕ) (part : IsPartBut T ranges q r K) where

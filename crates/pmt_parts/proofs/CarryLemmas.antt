@@ -3,10 +3,7 @@ use Rattle.std.proofs.Common.{◌≡◌, ℕ, zero, suc, ◌<◌, ◌≤◌, inl
 use Rattle.std.specs.Prelude.{◌↔◌}
 use Rattle.std.proofs.lemmas.Bool.{cases_lt, cases_eq}
 use Rattle.std.proofs.lemmas.List.{take_all, length-set}
-use Rattle.pmt_model.specs.Machine.{Stores, Flushes, Fences}
-use Rattle.pmt_model.specs.Traces.{Recording, act, history}
-use Rattle.pmt_model.specs.Fronts.{front, front_at}
-use Rattle.pmt_model.specs.Selections.{IsRising, Has}
+use Rattle.pmt_laws.specs.Prelude.{Stores, Flushes, Fences, Recording, act, history, front, front_at, IsRising, Has}
 use Rattle.pmt_laws.proofs.Histories.{act-within}
 use Rattle.pmt_tables.specs.Flags.{is_kept_at}
 use Rattle.pmt_part_laws.specs.Parts.{IsCarried, IsCarry}

@@ -2,14 +2,11 @@
 use Rattle.std.proofs.Common.{◌≡◌, ℕ, zero, suc, ◌+◌, ◌-◌, ◌<◌, ◌≤◌, inl, inr, Bool, true, false, List, [], ◌∷◌, ◌++◌, length, filter, append_assoc, refl, sym, ap, ◌∙◌, true≢false, arith}
 use Rattle.std.specs.Prelude.{◌⊎◌, ◌↔◌, not}
 use Rattle.std.proofs.lemmas.Bool.{cases_lt}
-use Rattle.pmt_model.specs.Traces.{Recording}
-use Rattle.pmt_model.specs.Selections.{IsRising, Has}
+use Rattle.pmt_laws.specs.Prelude.{Recording, IsRising, Has}
 use Rattle.pmt_asked.specs.declared.ignoring.ByteRange.{ByteRange}
-use Rattle.pmt_asked.specs.Ignoring.{is_ignored}
-use Rattle.pmt_part_laws.specs.Parts.{IsCarried, IsCarry}
-use Rattle.pmt_part_laws.specs.Laws.{stretch}
-use Rattle.pmt_parts.specs.Making.{IsTaken}
-use Rattle.pmt_parts.specs.Picking.{AreChosen}
+use Rattle.pmt_asked.specs.Choosing.{is_ignored}
+use Rattle.pmt_part_laws.specs.Parts.{IsCarried, IsCarry, stretch}
+use Rattle.pmt_parts.specs.Making.{IsTaken, AreChosen}
 
 -- ---- Lists of numbers
 

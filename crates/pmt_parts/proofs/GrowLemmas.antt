@@ -4,10 +4,7 @@ use Rattle.std.specs.Prelude.{◌⊎◌, slice_get}
 use Rattle.std.proofs.lemmas.Bool.{cases_lt}
 use Rattle.std.proofs.Math.Seq.{take-suc}
 use Rattle.std.proofs.lemmas.List.Elements.{filter_map-append}
-use Rattle.pmt_model.specs.declared.event.Event.{Event}
-use Rattle.pmt_model.specs.Traces.{Recording, event}
-use Rattle.pmt_model.specs.Selections.{Has, cut}
-use Rattle.pmt_model.specs.Pushing.{with_event}
+use Rattle.pmt_laws.specs.Prelude.{Event, Recording, event, Has, cut, with_event}
 use Rattle.pmt_asked.specs.declared.ignoring.ByteRange.{ByteRange}
 use Rattle.pmt_parts.specs.declared.part.Part.{Part}
 use Rattle.pmt_parts.specs.Making.{IsTaken, IsPartBut, IsPartOf, ComesNext}

@@ -1,14 +1,11 @@
 -- Where no range is ignored.
 use Rattle.std.proofs.Common.{◌≡◌, ℕ, zero, suc, ◌≤◌, inl, inr, false, List, [], ◌∷◌, length, refl, arith}
 use Rattle.std.specs.Prelude.{slice_get}
-use Rattle.std.specs.List.{AllByRecursion}
-use Rattle.pmt_model.specs.declared.event.Event.{Event}
-use Rattle.pmt_model.specs.declared.event.Op.{Op}
+use Rattle.pmt_laws.specs.Prelude.{Event, Op, Recording, IsEventIn, IsOp, AllByRecursion}
 use Rattle.pmt_model.specs.declared.event.Op.TheVariants as ops
-use Rattle.pmt_model.specs.Traces.{Recording, IsEventIn, IsOp}
-use Rattle.pmt_asked.specs.Ignoring.{are_ignored, is_op_ignored, is_event_ignored, is_ignored}
+use Rattle.pmt_asked.specs.Choosing.{are_ignored, is_op_ignored, is_event_ignored, is_ignored}
 use Rattle.pmt_part_laws.specs.Parts.{IsWellFormed}
-use Rattle.pmt_parts.specs.Laws.{PartOfAll}
+use Rattle.pmt_parts.specs.Making.{PartOfAll}
 
 none-ignored : (a : ℕ) (bytes : List ℕ) → 1 ≤ length bytes → are_ignored [] a bytes ≡ false
 none-ignored a [] some = absurd (omega (arith, some))

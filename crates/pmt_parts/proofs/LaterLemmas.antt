@@ -1,13 +1,9 @@
 -- What comes after a place, going back event by event, and which events are carried.
 use Rattle.std.proofs.Common.{◌≡◌, ◌≢◌, ℕ, suc, ◌<◌, ◌≤◌, inl, inr, Bool, true, false, List, [], length, get_or, set, get_or-set_same, get_or-set_other, refl, sym, ap, subst, ◌∙◌, true≢false, eq-eqb, arith}
 use Rattle.std.specs.Prelude.{◌⊎◌, ◌↔◌, not, nat_eq, replicate, if◌then◌else◌}
-use Rattle.std.specs.List.{list_any}
 use Rattle.std.proofs.lemmas.Bool.{cases_lt, cases_eq, ne_eqb}
 use Rattle.std.proofs.lemmas.List.{length-set, get_or-replicate, length-replicate}
-use Rattle.pmt_model.specs.Values.{Written}
-use Rattle.pmt_model.specs.Machine.{Act, Stores, Flushes, Clflushes, Fences, Asserts}
-use Rattle.pmt_model.specs.Traces.{Recording, IsAct, count_at}
-use Rattle.pmt_model.specs.Fronts.{front_at}
+use Rattle.pmt_laws.specs.Prelude.{Written, Act, Stores, Flushes, Clflushes, Fences, Asserts, Recording, IsAct, count_at, front_at, list_any}
 use Rattle.pmt_laws.proofs.Histories.{act-unique}
 use Rattle.pmt_safety.specs.Safety.{safe_store_at}
 use Rattle.pmt_safety.proofs.SafetyLemmas.{front-below}

@@ -3,18 +3,12 @@ use Rattle.std.proofs.Common.{◌≡◌, ℕ, zero, suc, ◌<◌, ◌≤◌, inl
 use Rattle.std.specs.Prelude.{◌⊎◌, ◌↔◌, slice_get}
 use Rattle.std.proofs.lemmas.Bool.{cases_lt}
 use Rattle.std.proofs.lemmas.Option.{slice_get-get_or, slice_get_within}
-use Rattle.pmt_model.specs.declared.event.Event.{Event}
-use Rattle.pmt_model.specs.declared.event.Op.{Op}
+use Rattle.pmt_laws.specs.Prelude.{Event, Op, Written, Span, Layout, line_of, Stores, writes, Recording, IsAct, act_of, Has, InSpan}
 use Rattle.pmt_model.specs.declared.event.Op.TheVariants as ops
-use Rattle.pmt_model.specs.Values.{Written, Span, Layout, line_of}
-use Rattle.pmt_model.specs.Machine.{Stores, writes}
-use Rattle.pmt_model.specs.Traces.{Recording, IsAct, act_of}
-use Rattle.pmt_model.specs.Selections.{Has}
-use Rattle.pmt_model.specs.Assertions.{InSpan}
 use Rattle.pmt_laws.proofs.Histories.{act-unique}
 use Rattle.pmt_slices.specs.Slices.{IsUnwritten}
 use Rattle.pmt_parts.specs.declared.aside.Met.{Met}
-use Rattle.pmt_parts.specs.Aside.{IsOrderedWith, IsOlderOrdered, HasByte, HasOp, IsWritten, IsMet}
+use Rattle.pmt_parts.specs.Making.{IsOrderedWith, IsOlderOrdered, HasByte, HasOp, IsWritten, IsMet}
 use Rattle.pmt_parts.proofs.ChosenLemmas.{has-both}
 
 -- event k stores to the byte at b

@@ -2,27 +2,21 @@
 use Rattle.std.proofs.Common.{◌≡◌, ℕ, ◌<◌, ◌≤◌, ◌⊎◌, inl, inr, false, List, length, refl, sym, ap, subst, ◌∙◌, le_antisymm, arith}
 use Rattle.std.specs.Prelude.{◌↔◌}
 use Rattle.std.proofs.lemmas.Bool.{cases_lt}
-use Rattle.pmt_model.specs.declared.event.Op.{Op}
+use Rattle.pmt_laws.specs.Prelude.{Op, Written, Layout, Act, Stores, Flushes, Clflushes, Fences, Recording, IsAct, act_of, count_at, front_at, Has, cut, matching_place}
 use Rattle.pmt_model.specs.declared.event.Op.TheVariants as ops
-use Rattle.pmt_model.specs.Values.{Written, Layout}
-use Rattle.pmt_model.specs.Machine.{Act, Stores, Flushes, Clflushes, Fences}
-use Rattle.pmt_model.specs.Traces.{Recording, IsAct, act_of, count_at}
-use Rattle.pmt_model.specs.Fronts.{front_at}
-use Rattle.pmt_model.specs.Selections.{Has, cut, matching_place}
 use Rattle.pmt_laws.proofs.Histories.{act-unique, act-within, front-mono}
 use Rattle.pmt_laws.proofs.CutLemmas.{place-mono}
 use Rattle.pmt_safety.specs.Safety.{safe_store_at}
 use Rattle.pmt_safety.proofs.SafetyLemmas.{front-below}
 use Rattle.pmt_explain.specs.Following.{ByFence, ByItself, IsCompletedAfter}
 use Rattle.pmt_asked.specs.declared.ignoring.ByteRange.{ByteRange}
-use Rattle.pmt_asked.specs.Ignoring.{is_op_ignored, is_event_ignored, is_ignored}
+use Rattle.pmt_asked.specs.Choosing.{is_op_ignored, is_event_ignored, is_ignored}
 use Rattle.pmt_slices.specs.Slices.{IsSubsequence}
 use Rattle.pmt_slices.proofs.CuttingLemmas.{kept-event, kept-act, act-origin, placed-later, later-origin, placed-by}
 use Rattle.pmt_slices.proofs.CoverLemmas.{completed-safe}
 use Rattle.pmt_part_laws.specs.Parts.{IsPending, IsLastOpen, IsCarried}
 use Rattle.pmt_part_laws.proofs.FenceLemmas.{flush-dec, last-since, NoneSince}
-use Rattle.pmt_parts.specs.Making.{IsTaken, IsPartBut}
-use Rattle.pmt_parts.specs.Laws.{PartCarriesAt}
+use Rattle.pmt_parts.specs.Making.{IsTaken, IsPartBut, PartCarriesAt}
 
 -- ---- Any trace
 

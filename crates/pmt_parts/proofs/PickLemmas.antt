@@ -3,13 +3,11 @@ use Rattle.std.proofs.Common.{◌≡◌, ℕ, zero, suc, ◌+◌, ◌-◌, ◌<�
 use Rattle.std.specs.Prelude.{◌↔◌}
 use Rattle.std.proofs.Math.Seq.{take-suc}
 use Rattle.std.proofs.lemmas.Bool.{le-leb, lt-leb, cases_lt}
-use Rattle.pmt_model.specs.declared.event.Event.{Event}
-use Rattle.pmt_model.specs.Traces.{Recording, event}
-use Rattle.pmt_model.specs.Selections.{IsRising, Has, cut, matching_place}
+use Rattle.pmt_laws.specs.Prelude.{Event, Recording, event, IsRising, Has, cut, matching_place}
 use Rattle.pmt_laws.proofs.CutLemmas.{has-above, place-low}
 use Rattle.pmt_slices.specs.Slices.{IsSubsequence}
 use Rattle.pmt_slices.proofs.CuttingLemmas.{kept-event, later-origin}
-use Rattle.pmt_parts.specs.Picking.{number_in, through}
+use Rattle.pmt_parts.specs.Making.{number_in, through}
 
 place-in : (k : ℕ) (ks : List ℕ) (n : ℕ) → k ≤ n → matching_place (k ∷ ks) n ≡ suc (matching_place ks n)
 place-in k ks n h = rw (le-leb k n h) refl

@@ -1,16 +1,13 @@
 -- A run from the first part to the last.
 use Rattle.std.proofs.Common.{◌≡◌, ℕ, ◌+◌, ◌-◌, ◌≤◌, ◌⊎◌, inl, inr, List, [], ◌∷◌, ◌++◌, length, length-append, append-nil, append_assoc, take, drop, slice_range, min, Option, None, Some, refl, sym, ap, ap₂, subst, ◌∙◌, arith}
 use Rattle.std.specs.Prelude.{IfSome}
-use Rattle.std.specs.List.{AllByRecursion, flat_map}
 use Rattle.std.specs.Io.KnownBytes.{Consumes, IsAtEnd, Keeps}
 use Rattle.std.proofs.lemmas.Bool.{cases_lt}
 use Rattle.std.proofs.lemmas.Grind.{flat_map-append}
 use Rattle.std.proofs.lemmas.List.{append_cancel_left, drop_at, drop-drop, take_all}
 use Rattle.std.proofs.Math.Seq.{take-add}
 use Rattle.std.proofs.lemmas.List.Concat.{flat_map-cons}
-use Rattle.pmt_model.specs.declared.event.Event.{Event}
-use Rattle.pmt_model.specs.Values.{Layout}
-use Rattle.pmt_model.specs.Traces.{Recording, IsTrace, IsEventIn}
+use Rattle.pmt_laws.specs.Prelude.{Event, Layout, Recording, IsTrace, IsEventIn, AllByRecursion, flat_map}
 use Rattle.pmt_text.specs.Coming.{Coming, judged, whole}
 use Rattle.pmt_text.specs.Spelling.{ended, event_line, event_text, header, spelling}
 use Rattle.pmt_text.proofs.WholeLemmas.{read_is_spelled}
@@ -20,8 +17,7 @@ use Rattle.pmt_parts.specs.declared.part.Part.{Part}
 use Rattle.pmt_parts.specs.Cutting.{line_count}
 use Rattle.pmt_parts.specs.Making.{IsPartOf, ComesNext}
 use Rattle.pmt_parts.proofs.PieceLemmas.{consumes-both, consumes-kept, line_count-append}
-use Rattle.pmt_parts.specs.Runs.{answered, FollowOn, AreAllParts, IsCutText, KeepsTo}
-use Rattle.pmt_parts.specs.Running.{BeginsWith, IsCutSoFar, Extends, ReadsOn}
+use Rattle.pmt_parts.specs.Runs.{answered, FollowOn, AreAllParts, IsCutText, KeepsTo, BeginsWith, IsCutSoFar, Extends, ReadsOn}
 use Rattle.pmt_parts.proofs.AnsweredLemmas.{answered-is}
 
 -- ---- Parts that follow on

@@ -10,7 +10,7 @@ use Rattle.pmt_parts.specs.declared.taker.Refusal.{Refusal}
 use Rattle.pmt_parts.specs.declared.taker.Stop.{Stop}
 use Rattle.pmt_parts.specs.declared.taker.Stop.TheVariants as stops
 use Rattle.pmt_parts.specs.Cutting.{IsPiece}
-use Rattle.pmt_parts.specs.Stopping.{IsRefusedBehind, IsRefusedPast, IsRefusedText, RefusedAs, StopsAs}
+use Rattle.pmt_parts.specs.Runs.{IsRefusedBehind, IsRefusedPast, IsRefusedText, RefusedAs, StopsAs}
 
 -- what is refused in one way is refused in another
 pub refused-as : (P Q : Refusal → Type 0) (e : PartError) → ((r : Refusal) → P r → Q r) → RefusedAs P e → RefusedAs Q e

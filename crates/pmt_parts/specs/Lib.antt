@@ -1,11 +1,5 @@
 pub mod Meeting
 pub mod Making
-pub mod Picking
-pub mod Cutting
 pub mod Reading
-pub mod LongTexts
-pub mod Aside
-pub mod Laws
+pub mod Cutting
 pub mod Runs
-pub mod Running
-pub mod Stopping

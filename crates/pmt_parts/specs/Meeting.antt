@@ -1,8 +1,6 @@
 -- What is known once the events after a place were met, from a later place back.
 use Rattle.std.specs.Prelude.{◌≡◌, ℕ, ◌+◌, ◌*◌, ◌<◌, ◌≤◌, ◌↔◌, Bool, true, false, List, length, nat_eq, slice_index_or}
-use Rattle.std.specs.List.{list_any}
-use Rattle.pmt_model.specs.Machine.{Flushes, Fences}
-use Rattle.pmt_model.specs.Traces.{Recording, IsAct}
+use Rattle.pmt_laws.specs.Prelude.{Flushes, Fences, Recording, IsAct, list_any}
 use Rattle.pmt_explain.specs.Following.{IsCompleteBy}
 use Rattle.pmt_tables.specs.Flags.{is_kept_at}
 use Rattle.pmt_part_laws.specs.Parts.{IsCarried}

@@ -1,10 +1,7 @@
 //! The assertions whose verdicts a part does not know.
 ghost use Rattle.std.specs.Prelude.{◌≡◌, ℕ, suc, ◌≤◌, ◌⊎◌, ◌↔◌, true, false, IfOk, OnOk};
-ghost use Rattle.pmt_model.specs.Machine.{writes};
-ghost use Rattle.pmt_model.specs.Traces.{Recording};
-ghost use Rattle.pmt_model.specs.Selections.{Has};
-ghost use Rattle.pmt_model.specs.Assertions.{InSpan};
-ghost use Rattle.pmt_parts.specs.Aside.{HasByte, HasOp, IsAside, IsMet, IsOlderOrdered, IsOrderedWith};
+ghost use Rattle.pmt_laws.specs.Prelude.{writes, Recording, Has, InSpan};
+ghost use Rattle.pmt_parts.specs.Making.{HasByte, HasOp, IsAside, IsMet, IsOlderOrdered, IsOrderedWith};
 
 use crate::part::{Part, place_in};
 use indexmap::IndexSet;

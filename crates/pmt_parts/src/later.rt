@@ -1,9 +1,7 @@
 //! What comes after a place, as events are met from a later place back.
 
 ghost use Rattle.std.specs.Prelude.{◌≡◌, ℕ, suc, ◌≤◌, IfOk};
-ghost use Rattle.pmt_model.specs.Values.{Written};
-ghost use Rattle.pmt_model.specs.Machine.{Stores, Flushes, Clflushes, Fences};
-ghost use Rattle.pmt_model.specs.Traces.{Recording, IsAct, act_of};
+ghost use Rattle.pmt_laws.specs.Prelude.{Written, Stores, Flushes, Clflushes, Fences, Recording, IsAct, act_of};
 ghost use Rattle.pmt_parts.specs.Meeting.{IsLater, TellsCarried, flush_key};
 
 use indexmap::IndexSet;

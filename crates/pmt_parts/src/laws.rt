@@ -1,8 +1,7 @@
 //! What a part without the ignored stores of its carry owes to the whole, and what pieces of a text do.
 
-ghost use Rattle.pmt_parts.specs.Aside.{AsideByWhole, AsideIsAll};
-ghost use Rattle.pmt_parts.specs.Laws.{PartCarriesAt, PartOfAll};
-ghost use Rattle.pmt_parts.specs.LongTexts.{EventsOfPieces, FaultsOfPieces};
+ghost use Rattle.pmt_parts.specs.Making.{AsideByWhole, AsideIsAll, PartCarriesAt, PartOfAll};
+ghost use Rattle.pmt_parts.specs.Cutting.{EventsOfPieces, FaultsOfPieces};
 
 /// Where no range is ignored, a part is what pmt_part_laws calls so, and all that stands there holds of it.
 pub fn part_of_all()

@@ -1,13 +1,10 @@
 //! One part of a trace, and the next one made from it.
 ghost use Rattle.std.specs.Prelude.{◌≡◌, ◌⊎◌, suc, ◌+◌, ◌-◌, ◌^◌, ◌<◌, ◌≤◌, ◌++◌, List, [], Some, length, min, not, filter, true, false, IfOk, OnOk};
-ghost use Rattle.pmt_model.specs.Pushing.{with_event};
-ghost use Rattle.pmt_model.specs.Selections.{IsRising, matching_place};
-ghost use Rattle.pmt_model.specs.Traces.{Recording, event as event_at, event_limit, IsEventIn};
+ghost use Rattle.pmt_laws.specs.Prelude.{with_event, IsRising, matching_place, Recording, event as event_at, event_limit, IsEventIn};
 ghost use Rattle.pmt_asked.specs.declared.ignoring.ByteRange.{ByteRange};
-ghost use Rattle.pmt_asked.specs.Ignoring.{is_ignored as event_ignored};
-ghost use Rattle.pmt_part_laws.specs.Laws.{stretch};
-ghost use Rattle.pmt_parts.specs.Making.{IsPartOf, ComesNext};
-ghost use Rattle.pmt_parts.specs.Picking.{AreChosen, number_in, through};
+ghost use Rattle.pmt_asked.specs.Choosing.{is_ignored as event_ignored};
+ghost use Rattle.pmt_part_laws.specs.Parts.{stretch};
+ghost use Rattle.pmt_parts.specs.Making.{IsPartOf, ComesNext, AreChosen, number_in, through};
 
 use crate::carrying::carry_at;
 use pmt_asked::{ByteRange, is_ignored};

@@ -3,9 +3,7 @@ ghost use Rattle.std.specs.Prelude.{◌≡◌, List, [], ℕ, IfOk, IfErr, OnOk}
 ghost use Rattle.pmt_asked.specs.declared.ignoring.ByteRange.{ByteRange};
 ghost use Rattle.pmt_text.specs.Spelling.{spelling};
 ghost use Rattle.pmt_parts.specs.Reading.{coming};
-ghost use Rattle.pmt_parts.specs.Running.{Extends, IsCutSoFar, ReadsOn};
-ghost use Rattle.pmt_parts.specs.Runs.{KeepsTo};
-ghost use Rattle.pmt_parts.specs.Stopping.{IsRefusedBehind, IsRefusedPast, IsRefusedText, RefusedAs};
+ghost use Rattle.pmt_parts.specs.Runs.{Extends, IsCutSoFar, ReadsOn, KeepsTo, IsRefusedBehind, IsRefusedPast, IsRefusedText, RefusedAs};
 
 use crate::taker::{PartError, Refusal};
 use crate::{Part, Pieces};

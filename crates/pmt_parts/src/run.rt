@@ -4,9 +4,7 @@ ghost use Rattle.std.specs.List.{AllByRecursion};
 ghost use Rattle.std.specs.Io.KnownBytes.{IsAtEnd, Keeps};
 ghost use Rattle.pmt_parts.specs.declared.part.Part.{Part};
 ghost use Rattle.pmt_parts.specs.Reading.{coming};
-ghost use Rattle.pmt_parts.specs.Runs.{IsCutText, KeepsTo};
-ghost use Rattle.pmt_parts.specs.Running.{IsCutSoFar};
-ghost use Rattle.pmt_parts.specs.Stopping.{IsRefusedAfter, IsRefusedPast, RefusedAs, StopsAs};
+ghost use Rattle.pmt_parts.specs.Runs.{IsCutText, KeepsTo, IsCutSoFar, IsRefusedAfter, IsRefusedPast, RefusedAs, StopsAs};
 
 use crate::part::next_part;
 use crate::reading::{first_part, read_on};

@@ -1,7 +1,7 @@
 //! What takes the parts of a text, and why no more of them are made.
 ghost use Rattle.std.specs.Prelude.{List, [], ◌∷◌, ◌++◌, Bool, false, OnOk};
 ghost use Rattle.pmt_parts.specs.declared.part.Part.{Part};
-ghost use Rattle.pmt_parts.specs.Stopping.{RefusedAs};
+ghost use Rattle.pmt_parts.specs.Runs.{RefusedAs};
 
 use crate::{Part, PieceError};
 use pmt_text::TextError;

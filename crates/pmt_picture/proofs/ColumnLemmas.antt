@@ -1,14 +1,11 @@
 -- One more number, and its column if the trace has that event.
 use Rattle.std.proofs.Common.{◌≡◌, ℕ, List, [], ◌∷◌, ◌++◌, Option, Some, None, refl, ap, ◌∙◌}
 use Rattle.std.proofs.lemmas.List.{map-append}
-use Rattle.std.proofs.lemmas.List.Elements.{All-nil, All-push, All-pop}
+use Rattle.std.proofs.lemmas.List.Elements.{All-push, All-pop}
 use Rattle.pmt_model.specs.declared.event.Event.{Event}
 use Rattle.pmt_model.specs.Traces.{Recording, event}
 use Rattle.pmt_picture.specs.declared.picture.Column.{Column}
 use Rattle.pmt_picture.specs.Columns.{IsEvent, HasEvent, AreColumns}
-
-pub columns-none : (T : Recording) → AreColumns T [] []
-columns-none T = record { events = All-nil (IsEvent T); numbers = λ all. refl }
 
 pub columns-more : (T : Recording) (ns : List ℕ) (cs : List Column) (c : Column) → AreColumns T ns cs → IsEvent T c → AreColumns T (ns ++ c.number ∷ []) (cs ++ c ∷ [])
 columns-more T ns cs c sofar is = record {

@@ -1,22 +1,16 @@
 -- Each mend that is told can be put in.
 use Rattle.std.proofs.Common.{◌≡◌, ℕ, zero, suc, ◌<◌, ◌≤◌, inl, inr, Bool, true, false, List, [], ◌∷◌, length, Option, None, Some, refl, sym, ap, subst, ◌∙◌, arith}
 use Rattle.std.specs.Prelude.{slice_get, MatchOption}
-use Rattle.std.specs.List.{AllByRecursion}
 use Rattle.std.proofs.lemmas.Bool.{cases_lt, cond-true}
 use Rattle.std.proofs.lemmas.Option.{none-some}
 use Rattle.std.proofs.lemmas.Bool.Decides.{nat_tests}
-use Rattle.pmt_model.specs.Values.{Layout, Span, Written, IsAddress, line_of}
-use Rattle.pmt_model.specs.declared.event.Event.{Event}
-use Rattle.pmt_model.specs.declared.event.Op.{Op}
-use Rattle.pmt_model.specs.declared.event.Op.TheVariants.{Store, Clwb, ClflushOpt, Sfence, IsPersist, IsOrderedBefore}
-use Rattle.pmt_model.specs.Machine.{Act, Stores, Flushes, Asserts}
-use Rattle.pmt_model.specs.Traces.{Recording, IsTrace, IsAct, IsOp, IsEventIn, act, act_of, event, count_at}
+use Rattle.pmt_laws.specs.Prelude.{Layout, Span, Written, IsAddress, line_of, Event, Op, Store, Clwb, ClflushOpt, Sfence, IsPersist, IsOrderedBefore, Act, Stores, Flushes, Asserts, Recording, IsTrace, IsAct, IsOp, IsEventIn, act, act_of, event, count_at, AllByRecursion}
 use Rattle.pmt_laws.proofs.Histories.{act-unique, act-within, event-within}
 use Rattle.pmt_reasons.specs.declared.cause.Cause.TheVariants.{Later, Unflushed, Unfenced}
 use Rattle.pmt_reasons.specs.declared.failure.Failure.{Failure}
 use Rattle.pmt_reasons.specs.declared.mend.Mend.TheVariants.{Fence, FlushAndFence, StoreFirst}
 use Rattle.pmt_reasons.specs.Failures.{persisted_at, IsPersistFailure, IsOrderedFailure, IsFailureOf, IsFailureAt}
-use Rattle.pmt_reasons.specs.PuttingIn.{with_at, without_at, put_in, number_after, put_in_both, number_after_both, put_first, number_first, IsPlaceBetween, CanBePutIn, FailureCanBeMended, LossCanBeMended}
+use Rattle.pmt_reasons.specs.Mends.{with_at, without_at, put_in, number_after, put_in_both, number_after_both, put_first, number_first, IsPlaceBetween, CanBePutIn, FailureCanBeMended, LossCanBeMended}
 use Rattle.pmt_reasons.proofs.PuttingInLaws.{with-length, without-length, fence_can_be_put_in, flush_and_fence_can_be_put_in, store_can_be_put_first, flushed_store_can_be_put_first}
 
 -- ---- The trace with the mend put in is one

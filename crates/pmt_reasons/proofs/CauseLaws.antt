@@ -1,15 +1,11 @@
 -- Each pending store has one cause.
 use Rattle.std.proofs.Common.{◌≡◌, ◌≢◌, ℕ, zero, suc, ◌<◌, ◌≤◌, ◌⊎◌, inl, inr, length, Option, None, Some, refl, sym, ap, subst, subst₂, arith}
 use Rattle.std.proofs.lemmas.Bool.{cases_lt, cases_eq}
-use Rattle.pmt_model.specs.Machine.{Act, Flushes, Clflushes, Fences}
-use Rattle.pmt_model.specs.Traces.{Recording, IsAct, count_at}
-use Rattle.pmt_model.specs.Fronts.{front_at}
-use Rattle.pmt_model.specs.Findings.{IsFlushOf, ByFlush, ByClflush}
+use Rattle.pmt_laws.specs.Prelude.{Act, Flushes, Clflushes, Fences, Recording, IsAct, count_at, front_at, IsFlushOf, ByFlush, ByClflush}
 use Rattle.pmt_laws.proofs.Histories.{act-unique, act-within, history-step, front-mono}
 use Rattle.pmt_reasons.specs.declared.cause.Cause.{Cause}
 use Rattle.pmt_reasons.specs.declared.cause.Cause.TheVariants.{Later, Unflushed, Unfenced}
-use Rattle.pmt_reasons.specs.Scanning.{with_flush, with_fence}
-use Rattle.pmt_reasons.specs.Causes.{IsFirstFence, IsUnfenced, IsCause, CauseExists, CauseIsUnique}
+use Rattle.pmt_reasons.specs.Causes.{with_flush, with_fence, IsFirstFence, IsUnfenced, IsCause, CauseExists, CauseIsUnique}
 use Rattle.pmt_reasons.proofs.CauseLemmas.{pending_by_fronts, cause-unsafe, safe-clflush, safe-fence, IsFlushedBy, cause-flush, cause-fence, cause-other, cause-start}
 
 -- an event with another act is no flush of the line

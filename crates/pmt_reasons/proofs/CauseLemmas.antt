@@ -2,19 +2,14 @@
 use Rattle.std.proofs.Common.{◌≡◌, ℕ, zero, suc, ◌<◌, ◌≤◌, ◌⊎◌, inl, inr, Option, None, Some, refl, ap, subst, ◌∙◌, arith}
 use Rattle.std.proofs.lemmas.Bool.{cases_lt}
 use Rattle.std.proofs.lemmas.Bool.Decides.{nat_tests}
-use Rattle.pmt_model.specs.Values.{Written}
-use Rattle.pmt_model.specs.Machine.{Act, Stores, Flushes, Clflushes, Fences, count}
-use Rattle.pmt_model.specs.Traces.{Recording, IsAct, history, count_at}
-use Rattle.pmt_model.specs.Fronts.{front_at}
-use Rattle.pmt_model.specs.Findings.{IsFlushOf, ByFlush, ByClflush}
+use Rattle.pmt_laws.specs.Prelude.{Written, Act, Stores, Flushes, Clflushes, Fences, count, Recording, IsAct, history, count_at, front_at, IsFlushOf, ByFlush, ByClflush}
 use Rattle.pmt_laws.proofs.Histories.{act-unique, act-within, history-act, count-mono, front-le-count}
 use Rattle.pmt_laws.proofs.BoxLemmas.{ends-box, count-store}
 use Rattle.pmt_laws.proofs.SameFronts.{fronts-are-vectors}
 use Rattle.pmt_laws.proofs.FrontLemmas.{front-reached, completed-le_front}
 use Rattle.pmt_reasons.specs.declared.cause.Cause.{Cause}
 use Rattle.pmt_reasons.specs.declared.cause.Cause.TheVariants.{Later, Unflushed, Unfenced}
-use Rattle.pmt_reasons.specs.Scanning.{with_first, with_flush, with_fence}
-use Rattle.pmt_reasons.specs.Causes.{IsUnflushed, IsFirstFenceAt, IsFirstFence, IsUnfenced, IsCause, PendingByFronts}
+use Rattle.pmt_reasons.specs.Causes.{with_first, with_flush, with_fence, IsUnflushed, IsFirstFenceAt, IsFirstFence, IsUnfenced, IsCause, PendingByFronts}
 
 -- a store is pending exactly where its rank is above the front
 pub pending_by_fronts : PendingByFronts

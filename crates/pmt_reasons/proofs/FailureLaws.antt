@@ -3,13 +3,7 @@ use Rattle.std.proofs.Common.{◌≡◌, ℕ, zero, suc, ◌<◌, ◌≤◌, ◌
 use Rattle.std.specs.Prelude.{IsSomeAnd}
 use Rattle.std.proofs.lemmas.Bool.{cases_lt, cond_both, cond-true, eq-eqb}
 use Rattle.std.proofs.lemmas.Bool.Decides.{nat_tests}
-use Rattle.pmt_model.specs.Values.{Span}
-use Rattle.pmt_model.specs.Machine.{Act, Stores, IsMoment}
-use Rattle.pmt_model.specs.Boxes.{InBox}
-use Rattle.pmt_model.specs.Fronts.{front, front_at}
-use Rattle.pmt_model.specs.Traces.{Recording, history, count_at}
-use Rattle.pmt_model.specs.Assertions.{Placed, InSpan, IsPersisted, last_store, up_to_last, NoLater, PersistPasses, OrderedPasses}
-use Rattle.pmt_model.specs.Findings.{last_store_number}
+use Rattle.pmt_laws.specs.Prelude.{Span, Act, Stores, IsMoment, InBox, front, front_at, Recording, history, count_at, Placed, InSpan, IsPersisted, last_store, up_to_last, NoLater, PersistPasses, OrderedPasses, last_store_number}
 use Rattle.pmt_laws.proofs.Histories.{act-unique, history-act, history-step, front-le-count}
 use Rattle.pmt_laws.proofs.MomentsOfRuns.{box-passes}
 use Rattle.pmt_laws.proofs.AssertLemmas.{persist_by_fronts, ordered_by_fronts}

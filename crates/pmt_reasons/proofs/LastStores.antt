@@ -2,11 +2,7 @@
 use Rattle.std.proofs.Common.{◌≡◌, ℕ, zero, suc, ◌≤◌, ◌⊎◌, inl, inr, Bool, true, false, List, ◌∷◌, length, Option, None, Some, refl, sym, ap, subst, ◌∙◌, arith}
 use Rattle.std.specs.Prelude.{if◌then◌else◌}
 use Rattle.std.proofs.lemmas.Bool.Decides.{nat_tests}
-use Rattle.pmt_model.specs.Values.{Written}
-use Rattle.pmt_model.specs.Machine.{Act, Stores, writes, count}
-use Rattle.pmt_model.specs.Traces.{Recording, IsAct, history, count_at}
-use Rattle.pmt_model.specs.Assertions.{last_store, up_to_last}
-use Rattle.pmt_model.specs.Findings.{last_store_number}
+use Rattle.pmt_laws.specs.Prelude.{Written, Act, Stores, writes, count, Recording, IsAct, history, count_at, last_store, up_to_last, last_store_number}
 use Rattle.pmt_laws.proofs.Histories.{act-within, history-act, history-step, length-history}
 use Rattle.pmt_reasons.proofs.CauseLemmas.{rank-store}
 

@@ -1,17 +1,10 @@
 -- With a mend put in, the store is no longer lost.
 use Rattle.std.proofs.Common.{◌≡◌, ℕ, zero, suc, ◌<◌, ◌≤◌, ◌⊎◌, inl, inr, Bool, true, false, List, [], ◌∷◌, ◌++◌, length, Option, None, Some, refl, sym, ap, subst, ◌∙◌, arith}
 use Rattle.std.specs.Prelude.{MatchOption}
-use Rattle.std.specs.Option.{option_map}
 use Rattle.std.proofs.lemmas.Bool.{cases_lt}
 use Rattle.std.proofs.lemmas.Option.{none-some}
 use Rattle.std.proofs.lemmas.Bool.Decides.{nat_tests}
-use Rattle.pmt_model.specs.Values.{Span, Written}
-use Rattle.pmt_model.specs.declared.event.Event.{Event}
-use Rattle.pmt_model.specs.declared.event.Op.{Op}
-use Rattle.pmt_model.specs.declared.event.Op.TheVariants.{IsPersist, IsOrderedBefore}
-use Rattle.pmt_model.specs.Machine.{Act, Stores, Flushes, State, count}
-use Rattle.pmt_model.specs.Traces.{Recording, IsAct, event, history, count_at}
-use Rattle.pmt_model.specs.Fronts.{front, front_at}
+use Rattle.pmt_laws.specs.Prelude.{Span, Written, Event, Op, IsPersist, IsOrderedBefore, Act, Stores, Flushes, State, count, Recording, IsAct, event, history, count_at, front, front_at, option_map}
 use Rattle.pmt_laws.proofs.Histories.{act-unique, act-within, history-act, history-step, count-mono, front-mono}
 use Rattle.pmt_laws.proofs.BoxLemmas.{leads-box}
 use Rattle.pmt_laws.proofs.MomentsOfRuns.{passes-split}

@@ -4,12 +4,9 @@ use Rattle.std.specs.Prelude.{slice_get, MatchOption}
 use Rattle.std.proofs.lemmas.Bool.{cases_lt}
 use Rattle.std.proofs.lemmas.Bool.Decides.{nat_tests}
 use Rattle.std.proofs.lemmas.Option.{none-some, same_Some}
-use Rattle.pmt_model.specs.declared.event.Event.{Event}
-use Rattle.pmt_model.specs.Machine.{Act, Flushes, Fences}
-use Rattle.pmt_model.specs.Traces.{Recording, IsAct, act, event}
+use Rattle.pmt_laws.specs.Prelude.{Event, Act, Flushes, Fences, Recording, IsAct, act, event}
 use Rattle.pmt_laws.proofs.Histories.{event-within}
-use Rattle.pmt_reasons.specs.Mends.{HasEvents, number_or_end, IsFlushedBetween}
-use Rattle.pmt_reasons.specs.PuttingIn.{with_at, without_at, put_in, number_after, put_in_both, number_after_both, put_first, number_first, IsPlaceBetween, FenceCanBePutIn, FlushAndFenceCanBePutIn, StoreCanBePutFirst, FlushedStoreCanBePutFirst}
+use Rattle.pmt_reasons.specs.Mends.{HasEvents, number_or_end, IsFlushedBetween, with_at, without_at, put_in, number_after, put_in_both, number_after_both, put_first, number_first, IsPlaceBetween, FenceCanBePutIn, FlushAndFenceCanBePutIn, StoreCanBePutFirst, FlushedStoreCanBePutFirst}
 
 -- ---- Events with one more
 

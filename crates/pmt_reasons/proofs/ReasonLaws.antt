@@ -2,10 +2,7 @@
 use Rattle.std.proofs.Common.{◌≡◌, ◌≢◌, ℕ, zero, suc, ◌-◌, ◌<◌, ◌≤◌, ◌⊎◌, inl, inr, true, length, refl, sym, ap, subst, ◌∙◌, arith}
 use Rattle.std.proofs.lemmas.Bool.{cases_lt, cases_eq}
 use Rattle.std.proofs.lemmas.Bool.Decides.{nat_tests}
-use Rattle.pmt_model.specs.Machine.{Act, Flushes, Clflushes, Fences, count}
-use Rattle.pmt_model.specs.Traces.{Recording, IsAct, history, count_at}
-use Rattle.pmt_model.specs.Fronts.{front, mark, front_at}
-use Rattle.pmt_model.specs.Selections.{always_stays}
+use Rattle.pmt_laws.specs.Prelude.{Act, Flushes, Clflushes, Fences, count, Recording, IsAct, history, count_at, front, mark, front_at, always_stays}
 use Rattle.pmt_model.specs.Keeping.{IsKept, Stays, ByFence, ByFlush, ByClflush}
 use Rattle.pmt_laws.proofs.Histories.{act-unique, act-within, history-act, history-step, front-mono}
 use Rattle.pmt_laws.proofs.BoxLemmas.{front-flush_now}

@@ -1,24 +1,16 @@
 -- The cause of a store, kept event by event, is its cause.
 use Rattle.std.proofs.Common.{◌≡◌, ◌≢◌, ◌↔◌, ℕ, zero, suc, ◌<◌, ◌≤◌, ◌⊎◌, inl, inr, ◌==◌, Bool, true, false, List, [], ◌∷◌, length, Option, None, Some, refl, sym, ap, subst, subst₂, ◌∙◌, arith, get_or, set, get_or-set_same, get_or-set_other, eq-eqb, eqb-true}
 use Rattle.std.specs.Prelude.{slice_get, MatchOption, if◌then◌else◌}
-use Rattle.std.specs.List.{AllByRecursion}
 use Rattle.std.proofs.lemmas.Option.{none-some, same_Some}
 use Rattle.std.proofs.Math.ListN.{length-set, replicate}
 use Rattle.std.proofs.lemmas.List.{length-replicate, get_or-replicate}
 use Rattle.std.proofs.lemmas.Bool.{cases_lt, cases_eq, false≢true}
 use Rattle.std.proofs.lemmas.Bool.Decides.{nat_tests}
-use Rattle.pmt_model.specs.declared.event.Event.{Event}
-use Rattle.pmt_model.specs.Machine.{Act, Flushes, Clflushes, Fences}
-use Rattle.pmt_model.specs.Values.{Layout}
-use Rattle.pmt_model.specs.declared.event.Op.{Op}
-use Rattle.pmt_model.specs.Traces.{Recording, IsTrace, IsEventIn, IsAct, act_of, act, count_at}
-use Rattle.pmt_model.specs.Fronts.{front_at}
-use Rattle.pmt_laws.proofs.Histories.{act-unique}
+use Rattle.pmt_laws.specs.Prelude.{Event, Act, Flushes, Clflushes, Fences, Layout, Op, Recording, IsTrace, IsEventIn, IsAct, act_of, act, count_at, front_at, AllByRecursion}
+use Rattle.pmt_laws.proofs.Histories.{act-unique, front-mono}
 use Rattle.pmt_reasons.specs.declared.cause.Cause.{Cause}
 use Rattle.pmt_reasons.specs.declared.cause.Cause.TheVariants.{Unflushed}
-use Rattle.pmt_reasons.specs.Scanning.{with_flush, with_fence, cause_after, flushed_after}
-use Rattle.pmt_reasons.specs.Causes.{IsCause}
-use Rattle.pmt_laws.proofs.Histories.{front-mono}
+use Rattle.pmt_reasons.specs.Causes.{with_flush, with_fence, cause_after, flushed_after, IsCause}
 use Rattle.pmt_reasons.proofs.CauseLemmas.{cause-start, safe-clflush, safe-fence, IsFlushedBy, cause-flush, cause-fence, cause-other}
 use Rattle.pmt_reasons.proofs.CauseLaws.{no_flush_of, no_fence, cause-ended}
 

@@ -1,13 +1,6 @@
 -- The crashes that violate assertions.
 use Rattle.std.specs.Prelude.{◌≡◌, ℕ, ◌<◌, ◌≤◌, ◌⊎◌, ◌==◌, if◌then◌else◌, Option, None, Some, MatchOption}
-use Rattle.pmt_model.specs.Values.{Span, Written}
-use Rattle.pmt_model.specs.declared.event.Op.{Op}
-use Rattle.pmt_model.specs.declared.event.Op.TheVariants.{Store, Clwb, ClflushOpt, Clflush, Sfence, Mfence, IsPersist, IsOrderedBefore}
-use Rattle.pmt_model.specs.Machine.{Stores, State, Ends, IsMoment}
-use Rattle.pmt_model.specs.Traces.{Recording, IsAct, event, history, count_at}
-use Rattle.pmt_model.specs.Fronts.{front_at}
-use Rattle.pmt_model.specs.Assertions.{InSpan, PersistPasses, OrderedPasses}
-use Rattle.pmt_model.specs.Findings.{last_store_number}
+use Rattle.pmt_laws.specs.Prelude.{Span, Written, Op, Store, Clwb, ClflushOpt, Clflush, Sfence, Mfence, IsPersist, IsOrderedBefore, Stores, State, Ends, IsMoment, Recording, IsAct, event, history, count_at, front_at, InSpan, PersistPasses, OrderedPasses, last_store_number}
 use Rattle.pmt_reasons.specs.declared.failure.ByteStore.{ByteStore}
 use Rattle.pmt_reasons.specs.declared.failure.Failure.{Failure}
 

@@ -1,7 +1,6 @@
 //! Laws of what mends a store that is not safe.
 
-ghost use Rattle.pmt_reasons.specs.Mends.{FailureIsMended, LossIsMended};
-ghost use Rattle.pmt_reasons.specs.PuttingIn.{FenceCanBePutIn, FlushAndFenceCanBePutIn, FlushedStoreCanBePutFirst, StoreCanBePutFirst, FailureCanBeMended, LossCanBeMended};
+ghost use Rattle.pmt_reasons.specs.Mends.{FailureIsMended, LossIsMended, FenceCanBePutIn, FlushAndFenceCanBePutIn, FlushedStoreCanBePutFirst, StoreCanBePutFirst, FailureCanBeMended, LossCanBeMended};
 
 /// In a trace with the mend of a failure put in, no crash up to the assertion loses the store, or keeps the one store without the other.
 pub fn failure_is_mended()

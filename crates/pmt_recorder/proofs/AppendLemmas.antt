@@ -3,8 +3,7 @@ use Rattle.std.proofs.Common.{◌≡◌, ℕ, zero, suc, ◌+◌, ◌<◌, ◌�
 use Rattle.std.proofs.lemmas.List.{length-append}
 use Rattle.pmt_model.specs.declared.event.Op.{Op}
 use Rattle.pmt_model.specs.Values.{Layout}
-use Rattle.pmt_model.specs.Traces.{Recording, in_format, event_limit}
-use Rattle.pmt_model.specs.Pushing.{with_event}
+use Rattle.pmt_model.specs.Traces.{Recording, in_format, event_limit, with_event}
 use Rattle.pmt_book.specs.declared.fault.BookError.{BookError}
 use Rattle.pmt_book.specs.declared.fault.BookError.TheVariants.{NotInFormat, Full, OutOfMemory}
 use Rattle.pmt_recorder.specs.Strips.{Strip, strip, with_entry, event_of}

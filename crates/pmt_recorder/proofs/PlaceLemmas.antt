@@ -7,9 +7,8 @@ use Rattle.std.proofs.lemmas.List.{drop_all}
 use Rattle.std.proofs.lemmas.Bool.{eqb-false}
 use Rattle.pmt_model.specs.declared.event.Event.{Event}
 use Rattle.pmt_model.specs.declared.event.Op.{Op}
-use Rattle.pmt_model.specs.Interleavings.{part_from}
-use Rattle.pmt_recorder.specs.Strips.{Strip, entries_of}
-use Rattle.pmt_recorder.specs.Places.{IsPlaceOf, HasEntry, HasLength}
+use Rattle.pmt_model.specs.Selections.{part_from}
+use Rattle.pmt_recorder.specs.Strips.{Strip, entries_of, IsPlaceOf, HasEntry, HasLength}
 
 -- the tape of the thread stands first of the rest
 pub place-found : (t p : ℕ) (strips : List Strip) (s : Strip) → p < length strips → s ≡ get_or strips p s → s.thread ≡ t → entries_of t (drop p strips) ≡ entries_of t strips

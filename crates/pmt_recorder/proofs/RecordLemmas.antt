@@ -9,11 +9,10 @@ use Rattle.pmt_model.specs.declared.event.Event.{Event}
 use Rattle.pmt_model.specs.declared.event.Op.{Op}
 use Rattle.pmt_model.specs.Values.{Layout}
 use Rattle.pmt_model.specs.Traces.{Recording}
-use Rattle.pmt_model.specs.Interleavings.{part}
+use Rattle.pmt_model.specs.Selections.{part}
 use Rattle.pmt_book.specs.declared.fault.BookError.{BookError}
 use Rattle.pmt_book.specs.declared.fault.BookError.TheVariants.{NotInFormat, Full, OutOfMemory}
-use Rattle.pmt_recorder.specs.Strips.{Strip, strip, empty_tapes, has_thread, IsOneOfEach, entries_of, ops_of}
-use Rattle.pmt_recorder.specs.Sealing.{IsSealed}
+use Rattle.pmt_recorder.specs.Strips.{Strip, strip, empty_tapes, has_thread, IsOneOfEach, entries_of, ops_of, IsSealed}
 use Rattle.pmt_recorder.specs.Scripts.{IsRecorded, Plays, PlaysEach, AtScript, IsInFormat, AreInFormatBelow, HaveOpsOf, IsTornOf, first_fault, RecordFails, RecordFailsIf}
 use Rattle.pmt_recorder.specs.declared.fault.RecordError.{RecordError}
 use Rattle.pmt_recorder.specs.declared.fault.RecordError.TheVariants.{BadCount, NotInFormat as NotInFormatAt, Full as FullAt, OutOfMemory as NoMemory, Torn}

@@ -5,9 +5,8 @@ use Rattle.std.proofs.lemmas.List.{length-append, take_at}
 use Rattle.pmt_model.specs.declared.event.Event.{Event}
 use Rattle.pmt_model.specs.Values.{Layout}
 use Rattle.pmt_model.specs.Traces.{Recording}
-use Rattle.pmt_model.specs.Interleavings.{part}
-use Rattle.pmt_recorder.specs.Strips.{Strip, IsOneOfEach, entries_of, by_thread, total_length}
-use Rattle.pmt_recorder.specs.Sealing.{IsSealed, SealFails, IsHandedBack}
+use Rattle.pmt_model.specs.Selections.{part}
+use Rattle.pmt_recorder.specs.Strips.{Strip, IsOneOfEach, entries_of, by_thread, total_length, IsSealed, SealFails, IsHandedBack}
 use Rattle.pmt_recorder.specs.Shelving.{IsShelved}
 use Rattle.pmt_recorder.specs.declared.fault.SealKind.TheVariants.{Torn}
 

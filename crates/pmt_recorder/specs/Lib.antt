@@ -1,5 +1,3 @@
 pub mod Strips
-pub mod Places
 pub mod Shelving
-pub mod Sealing
 pub mod Scripts

@@ -5,11 +5,10 @@ use Rattle.pmt_model.specs.declared.event.Event.{Event}
 use Rattle.pmt_model.specs.declared.event.Op.{Op}
 use Rattle.pmt_model.specs.Values.{Layout}
 use Rattle.pmt_model.specs.Traces.{Recording, in_format, event_limit}
-use Rattle.pmt_model.specs.Interleavings.{part}
+use Rattle.pmt_model.specs.Selections.{part}
 use Rattle.pmt_book.specs.declared.fault.BookError.{BookError}
 use Rattle.pmt_book.specs.declared.fault.BookError.TheVariants.{NotInFormat, Full, OutOfMemory}
-use Rattle.pmt_recorder.specs.Strips.{Strip, ops_of, entries_of}
-use Rattle.pmt_recorder.specs.Sealing.{SealFails}
+use Rattle.pmt_recorder.specs.Strips.{Strip, ops_of, entries_of, SealFails}
 use Rattle.pmt_recorder.specs.declared.fault.SealKind.TheVariants.{Torn as IsTornTape}
 use Rattle.pmt_recorder.specs.declared.fault.RecordError.{RecordError}
 use Rattle.pmt_recorder.specs.declared.fault.RecordError.TheVariants.{BadCount, NotInFormat as NotInFormatAt, Full as FullAt, OutOfMemory as NoMemory, Torn}

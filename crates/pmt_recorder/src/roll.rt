@@ -17,7 +17,7 @@ pub trait Roll: Ledger {
 }
 
 impl Roll for Brand {
-    ghost use Rattle.pmt_model.specs.Formats.{first_version};
+    ghost use Rattle.pmt_model.specs.Values.{first_version};
 
     ghost tapes = { 0 };
 

@@ -1,11 +1,9 @@
 //! Recording scripts, each by a thread of its own.
 ghost use Rattle.std.specs.Prelude.{◌≡◌, ℕ, nat_lt, ◌<◌, ◌≤◌, ◌↔◌, ◌⊎◌, [], length, map, slice_get, Some, Err, IfOk, IfErr, IfSome, IfNone};
-ghost use Rattle.pmt_model.specs.Formats.{first_version};
+ghost use Rattle.pmt_model.specs.Values.{first_version, Layout};
 ghost use Rattle.pmt_model.specs.Traces.{event_limit};
-ghost use Rattle.pmt_model.specs.Values.{Layout};
 ghost use Rattle.pmt_recorder.specs.Scripts.{IsRecorded, IsTornOf, Plays, PlaysEach, RecordFails, RecordFailsIf, first_fault, op_count, AtScript};
-ghost use Rattle.pmt_recorder.specs.Sealing.{IsSealed};
-ghost use Rattle.pmt_recorder.specs.Strips.{IsOneOfEach, empty_tapes};
+ghost use Rattle.pmt_recorder.specs.Strips.{IsSealed, IsOneOfEach, empty_tapes};
 
 use crate::fault::{AppendError, RecordError, SealKind, StartError};
 use crate::roll::Roll;

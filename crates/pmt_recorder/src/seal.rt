@@ -1,9 +1,8 @@
 //! What sealing a session compares: the tapes with the session's numbers, and each with its part of the book.
 
 ghost use Rattle.std.specs.Prelude.{◌≡◌, ℕ, ◌<◌, ◌≤◌, true, length, slice_index, IsTrue, ◌↔◌, IfSome, IfNone};
-ghost use Rattle.pmt_model.specs.Interleavings.{part};
-ghost use Rattle.pmt_recorder.specs.Strips.{IsOneOfEach, has_thread, entries_of};
-ghost use Rattle.pmt_recorder.specs.Places.{IsPlaceOf, HasEntry, HasLength};
+ghost use Rattle.pmt_model.specs.Selections.{part};
+ghost use Rattle.pmt_recorder.specs.Strips.{IsOneOfEach, has_thread, entries_of, IsPlaceOf, HasEntry, HasLength};
 
 use crate::roll::Roll;
 use crate::tape::Tape;

@@ -1,9 +1,8 @@
 //! The session: its one lock, and the tapes that belong to it.
 ghost use Rattle.std.specs.Prelude.{◌≡◌, ℕ, ◌+◌, ◌<◌, ◌≤◌, ◌↔◌, ◌⊎◌, IfOk, OnOk, IfErr, Err};
-ghost use Rattle.pmt_model.specs.Formats.{first_version};
-ghost use Rattle.pmt_recorder.specs.Sealing.{IsSealed, SealFails, IsHandedBack};
+ghost use Rattle.pmt_model.specs.Values.{first_version};
+ghost use Rattle.pmt_recorder.specs.Strips.{IsSealed, SealFails, IsHandedBack, empty_tapes};
 ghost use Rattle.pmt_recorder.specs.Shelving.{Records, IsSnapshot};
-ghost use Rattle.pmt_recorder.specs.Strips.{empty_tapes};
 
 use crate::fault::{AppendError, SealFault, SnapshotError, StartError};
 use crate::parts::{Rest, Whole};

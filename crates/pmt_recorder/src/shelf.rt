@@ -2,7 +2,7 @@
 ghost use Rattle.std.specs.Prelude.{◌≡◌, ℕ, ◌<◌, [], IfOk, IfErr};
 ghost use Rattle.std.specs.List.{AllByRecursion};
 ghost use Rattle.pmt_model.specs.declared.event.Event.{Event};
-ghost use Rattle.pmt_recorder.specs.Sealing.{IsSealed, SealFails, IsHandedBack};
+ghost use Rattle.pmt_recorder.specs.Strips.{IsSealed, SealFails, IsHandedBack};
 ghost use Rattle.pmt_recorder.specs.Shelving.{Appends, Shows, IsSnapshot};
 
 use crate::fault::{AppendError, SealFault, SealKind, SnapshotError};

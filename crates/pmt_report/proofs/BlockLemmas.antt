@@ -1,13 +1,9 @@
 -- What a source has told and given while its events are taken block by block.
-use Rattle.std.proofs.Common.{◌≡◌, ◌≢◌, ℕ, suc, ◌+◌, ◌<◌, ◌≤◌, inl, inr, ◌==◌, Bool, true, false, List, [], ◌∷◌, ◌++◌, length, Option, Some, None, IfSome, Result, Ok, Err, refl, sym, ap, subst, ◌∙◌, arith, eqb-true}
-use Rattle.std.specs.Prelude.{if◌then◌else◌, IfErr}
-use Rattle.std.specs.List.{AllByRecursion}
+use Rattle.std.proofs.Common.{◌≡◌, ◌≢◌, ℕ, ◌+◌, ◌≤◌, inl, inr, ◌==◌, Bool, true, false, List, [], ◌∷◌, ◌++◌, length, Option, Some, None, IfSome, Result, Ok, Err, refl, sym, ap, subst, ◌∙◌, arith, eqb-true}
+use Rattle.std.specs.Prelude.{IfErr}
 use Rattle.std.proofs.lemmas.Bool.{eqb-false}
 use Rattle.std.proofs.lemmas.List.{length-append}
-use Rattle.pmt_model.specs.declared.event.Event.{Event}
-use Rattle.pmt_model.specs.Values.{Layout}
-use Rattle.pmt_model.specs.Traces.{Recording, IsTrace, IsEventIn, event_limit}
-use Rattle.pmt_model.specs.Pushing.{with_events}
+use Rattle.pmt_laws.specs.Prelude.{Event, Layout, Recording, IsTrace, IsEventIn, event_limit, with_events, AllByRecursion}
 use Rattle.pmt_text.specs.declared.kind.SourceError.{SourceError}
 use Rattle.pmt_text.specs.declared.kind.SourceError.TheVariants.{Text, TooMany, Read, OutOfMemory, Failed}
 use Rattle.pmt_text.specs.declared.source.SourceState.{SourceState}
@@ -17,10 +13,9 @@ use Rattle.pmt_text.specs.Sources.{Gives, HasFormat, CountsReads}
 use Rattle.pmt_text.proofs.SourceLemmas.{Gives-trans, whole-parts}
 use Rattle.pmt_taking.specs.declared.taking.TakeError.{TakeError}
 use Rattle.pmt_taking.specs.declared.taking.TakeError.TheVariants as refusals
-use Rattle.pmt_taking.specs.Sourcing.{IsFaultOf, TellsEnd, TellsFault, TellsNothing, TellsRefusal, TellsTaken, told_by}
-use Rattle.pmt_taking.specs.Blocks.{Shown, TakesBlock}
+use Rattle.pmt_taking.specs.Sourcing.{IsFaultOf, TellsEnd, TellsFault, TellsNothing, TellsRefusal, TellsTaken, told_by, Shown, TakesBlock}
 use Rattle.pmt_taking.proofs.SourceRunLemmas.{SoFar, SameReads}
-use Rattle.pmt_report.specs.Blockwise.{IsTakenSoFar, IsTakenWhole}
+use Rattle.pmt_report.specs.Checks.{IsTakenSoFar, IsTakenWhole}
 
 -- ---- Block after block
 
@@ -187,14 +182,6 @@ next-trace most first mid now T B so_far block before next = record {
 }
 
 -- ---- What is left to take
-
--- a block that is full leaves less to come
-pub fewer-left : (most : ℕ) (mid now : Shown) (B : Recording) → 1 ≤ most → TakesBlock most mid now B → (if length B.events == most then suc now.room else 0) < suc mid.room
-fewer-left most mid now B some block = go (length B.events == most) refl
-  where
-    go : (b : Bool) → (length B.events == most) ≡ b → (if b then suc now.room else 0) < suc mid.room
-    go true full = let all : length B.events ≡ most = eqb-true (length B.events) most full in omega (arith, all, some, block.roomy)
-    go false short = omega arith
 
 -- want of memory is no fault of the source
 pub unfaulted : {A : Type 0} (coming : Option Coming) (r : Result A TakeError) → r ≡ Err refusals.OutOfMemory → IfErr (told_by r) (λ f. IfSome coming (λ c. IsFaultOf c f))

@@ -1,16 +1,13 @@
 -- A text that is put piece by piece, and written chunk by chunk.
-use Rattle.std.proofs.Common.{◌≡◌, ℕ, zero, suc, ◌+◌, ◌-◌, ◌*◌, ◌<◌, ◌≤◌, ◌^◌, List, [], ◌∷◌, ◌++◌, length, take, Option, None, Some, Result, Ok, Err, vec_capacity, vec_len, refl, sym, ap, ◌∙◌, subst, append_assoc, append-nil, arith}
+use Rattle.std.proofs.Common.{◌≡◌, ℕ, zero, suc, ◌+◌, ◌-◌, ◌*◌, ◌<◌, ◌≤◌, ◌^◌, List, [], ◌∷◌, ◌++◌, length, take, Option, None, Some, Result, Ok, Err, vec_capacity, vec_len, sym, ap, ◌∙◌, subst, append_assoc, append-nil, arith}
 use Rattle.std.proofs.lemmas.List.{length-append, take-append-le, take_all}
 use Rattle.std.specs.Io.KnownBytes.{Appends, Keeps}
-use Rattle.pmt_model.specs.declared.finding.Finding.{Finding}
-use Rattle.pmt_model.specs.declared.finding.Verdict.{Verdict}
-use Rattle.pmt_report.specs.Entries.{entries}
-use Rattle.pmt_report.specs.Reports.{report, report_head, report_end}
+use Rattle.pmt_laws.specs.Prelude.{Finding, Verdict}
+use Rattle.pmt_report.specs.Reports.{entries, report, report_head, report_end}
 use Rattle.pmt_report.specs.declared.chunks.Chunks.{Chunks}
 use Rattle.pmt_report.specs.declared.fault.RunError.{RunError}
 use Rattle.pmt_report.specs.declared.fault.RunError.TheVariants.{BadWorkers, Text, TooMany, Read, PastEnd, OutOfMemory, Write}
-use Rattle.pmt_report.specs.Runs.{WritesText}
-use Rattle.pmt_report.specs.Chunking.{IsPut, PutsOn, WritesReport}
+use Rattle.pmt_report.specs.Runs.{WritesText, IsPut, WritesReport}
 
 -- what is appended to what was appended
 pub appends-more : (before old new : Option (List ℕ)) (a b : List ℕ) → Appends before old a → Appends old new b → Appends before new (a ++ b)
@@ -18,10 +15,6 @@ appends-more None old new a b h g = _
 appends-more (Some xs) None new a b h g = absurd h
 appends-more (Some xs) (Some ys) None a b h g = absurd g
 appends-more (Some xs) (Some ys) (Some zs) a b h g = g ∙ ap (λ (l : List ℕ). l ++ b) h ∙ append_assoc xs a b
-
-pub appends-none : (known : Option (List ℕ)) → Appends known known []
-appends-none None = _
-appends-none (Some xs) = sym (append-nil xs)
 
 take-past : (xs ys : List ℕ) (n m : ℕ) → m ≡ length xs + n → take m (xs ++ ys) ≡ xs ++ take n ys
 take-past [] ys n m e = ap (λ (k : ℕ). take k ys) (the e)
@@ -42,26 +35,6 @@ written-within before new text rest TooMany h = h
 written-within before new text rest Read h = h
 written-within before new text rest (PastEnd events) h = h
 written-within before new text rest OutOfMemory h = h
-
-pub puts-within : (before new : Option (List ℕ)) (text rest : List ℕ) (e : RunError) (a b : Chunks) → PutsOn before new text (Err e) a → PutsOn before new (text ++ rest) (Err e) b
-puts-within before new text rest e a b h = written-within before new text rest e h
-
--- nothing is put
-pub none-put : (known : Option (List ℕ)) (c : Chunks) → c.waiting.items ≡ [] → c.written ≡ 0 → 65536 ≤ vec_capacity c.waiting → IsPut known known [] c
-none-put known c none nothing room = record { out = []; parts = sym none; written = appends-none known; count = nothing; room = room }
-
--- a line more waits
-pub line-waits : (before now : Option (List ℕ)) (text line : List ℕ) (old new : Chunks) → IsPut before now text old → new.waiting.items ≡ old.waiting.items ++ line → new.written ≡ old.written
-    → vec_capacity old.waiting ≤ vec_capacity new.waiting → IsPut before now (text ++ line) new
-line-waits before now text line old new put more same grows =
-    let room = put.room in
-    record {
-      out = put.out;
-      parts = ap (λ (l : List ℕ). l ++ line) put.parts ∙ append_assoc put.out old.waiting.items line ∙ ap (λ (l : List ℕ). put.out ++ l) (sym more);
-      written = put.written;
-      count = same ∙ put.count;
-      room = omega (arith, grows, room);
-    }
 
 -- how many bytes are put
 pub put-long : (before now : Option (List ℕ)) (text : List ℕ) (c : Chunks) → IsPut before now text c → length text ≡ c.written + length c.waiting.items
@@ -129,9 +102,6 @@ pub record IsUnderWay (before now : Option (List ℕ)) (whole left : List ℕ) (
   pub rest : sofar ++ left ≡ whole
   pub few : length sofar + 128 * lines ≤ 2 ^ 57
 
-pub way-begins : (before now : Option (List ℕ)) (text left : List ℕ) (lines : ℕ) (c : Chunks) → IsPut before now text c → length text ≤ 128 → lines ≤ 2 ^ 49 → IsUnderWay before now (text ++ left) left lines c
-way-begins before now text left lines c put short few = record { sofar = text; put = put; rest = refl; few = omega (arith, short, few) }
-
 -- one line more
 pub way-on : (before now then : Option (List ℕ)) (whole left line later : List ℕ) (lines fewer : ℕ) (c new : Chunks) (way : IsUnderWay before now whole left lines c) → left ≡ line ++ later
     → fewer ≡ lines - 1 → 1 ≤ lines → length line ≤ 128 → IsPut before then (way.sofar ++ line) new → IsUnderWay before then whole later fewer new
@@ -183,7 +153,3 @@ pub is-report : (events lines kept : ℕ) (fs : List Finding) (vs : List Verdict
 unfolding report
 is-report events lines kept fs vs head last a b =
     ap (λ (l : List ℕ). l ++ entries fs vs ++ last) a ∙ ap (λ (l : List ℕ). report_head events lines ++ entries fs vs ++ l) b
-
-pub keeps-itself : (known : Option (List ℕ)) → Keeps known known
-keeps-itself None = _
-keeps-itself (Some xs) = refl

@@ -1,10 +1,7 @@
 -- The entries of a report, finding by finding.
 use Rattle.std.proofs.Common.{◌≡◌, List, [], ◌∷◌, ◌++◌, refl}
-use Rattle.std.specs.List.{flat_map}
-use Rattle.pmt_model.specs.declared.finding.Finding.{Finding}
-use Rattle.pmt_model.specs.declared.finding.Verdict.{Verdict}
-use Rattle.pmt_model.specs.Analyses.{reported_at}
-use Rattle.pmt_report.specs.Entries.{verdict_entry, finding_entry, verdicts_before, verdicts_from, entries}
+use Rattle.pmt_laws.specs.Prelude.{Finding, Verdict, reported_at, flat_map}
+use Rattle.pmt_report.specs.Reports.{verdict_entry, finding_entry, verdicts_before, verdicts_from, entries}
 
 -- one more finding, after the verdicts before it
 pub entries-finding : (f : Finding) (fs : List Finding) (vs : List Verdict) →

@@ -1,14 +1,8 @@
 -- The fronts of a trace from the lines of its first events.
 use Rattle.std.proofs.Common.{◌≡◌, ℕ, suc, ◌+◌, ◌*◌, ◌^◌, ◌<◌, ◌≤◌, inl, inr, List, ◌∷◌, ◌++◌, length, drop, drop-cons, get_or, append_assoc, append-nil, map, reverse, Option, Some, None, refl, sym, ap, ◌∙◌, subst, arith, length-append}
 use Rattle.std.specs.Prelude.{All}
-use Rattle.std.specs.List.{flat_map}
 use Rattle.std.proofs.lemmas.List.{drop_all, take-append-le}
-use Rattle.pmt_model.specs.declared.event.Event.{Event}
-use Rattle.pmt_model.specs.Values.{Layout}
-use Rattle.pmt_model.specs.Machine.{Act, count}
-use Rattle.pmt_model.specs.Traces.{Recording, IsEventIn, history, lines_of, act}
-use Rattle.pmt_model.specs.Pushing.{with_event}
-use Rattle.pmt_model.specs.Fronts.{front}
+use Rattle.pmt_laws.specs.Prelude.{Event, Layout, Act, count, Recording, IsEventIn, history, lines_of, act, with_event, front, flat_map}
 use Rattle.pmt_text.specs.Coming.{Coming, ComesWhole}
 use Rattle.pmt_text.specs.Sources.{Gives, HasFormat}
 use Rattle.pmt_text.proofs.SourceLemmas.{whole-parts}
@@ -17,9 +11,8 @@ use Rattle.pmt_text.specs.declared.source.SourceState.TheVariants.{Open, Ended, 
 use Rattle.pmt_taking.proofs.GrownLemmas.{length-grown, history-new}
 use Rattle.pmt_book.specs.Live.{IsLive}
 use Rattle.pmt_report.specs.declared.first_lines.TraceLines.{TraceLines}
-use Rattle.pmt_report.specs.Reports.{fronts_head, front_entry, fronts_text}
-use Rattle.pmt_report.specs.Taking.{EndsAfter}
-use Rattle.pmt_report.specs.FrontsOf.{AreLinesOf, TakesLines}
+use Rattle.pmt_report.specs.Reports.{fronts_head, front_entry, fronts_text, AreLinesOf, TakesLines}
+use Rattle.pmt_report.specs.Checks.{EndsAfter}
 use Rattle.pmt_report.specs.Runs.{IsComputed, IsFrontsAt, IsPast}
 use Rattle.pmt_report.proofs.BoundLemmas.{low-more}
 

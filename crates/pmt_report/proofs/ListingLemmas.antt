@@ -1,15 +1,11 @@
 -- The entries of a report, one by one.
 use Rattle.std.proofs.Common.{◌≡◌, ℕ, ◌<◌, ◌≤◌, inl, inr, Bool, true, false, if◌then◌else◌, List, [], ◌∷◌, ◌++◌, refl, sym, ap, ◌∙◌, append_assoc, arith}
 use Rattle.std.specs.Prelude.{nat_lt}
-use Rattle.std.specs.List.{flat_map}
 use Rattle.std.proofs.lemmas.Bool.{ltb-true, ltb-false}
 use Rattle.std.proofs.lemmas.List.{append-nil}
 use Rattle.std.proofs.lemmas.List.Concat.{flat_map-cons}
-use Rattle.pmt_model.specs.declared.finding.Finding.{Finding}
-use Rattle.pmt_model.specs.declared.finding.Verdict.{Verdict}
-use Rattle.pmt_model.specs.Analyses.{reported_at, IsReportedBefore, InReportOrder, InEventOrder}
-use Rattle.pmt_report.specs.Entries.{finding_entry, verdict_entry, verdicts_before, verdicts_from, entries}
-use Rattle.pmt_report.specs.Listing.{Entry, OfFinding, OfVerdict, line_of_entry, findings_in, verdicts_in, GoByEvent, EntriesAreListing}
+use Rattle.pmt_laws.specs.Prelude.{Finding, Verdict, reported_at, IsReportedBefore, InReportOrder, InEventOrder, flat_map}
+use Rattle.pmt_report.specs.Reports.{finding_entry, verdict_entry, verdicts_before, verdicts_from, entries, Entry, OfFinding, OfVerdict, line_of_entry, findings_in, verdicts_in, GoByEvent, EntriesAreListing}
 use Rattle.pmt_report.proofs.EntryLemmas.{entries-finding, entries-end}
 
 -- The verdicts, and then more entries.

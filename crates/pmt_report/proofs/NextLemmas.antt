@@ -1,13 +1,10 @@
 -- The next entry of a report, and its lines, part by part.
 use Rattle.std.proofs.Common.{◌≡◌, ℕ, ◌+◌, ◌≤◌, Bool, true, false, if◌then◌else◌, List, [], ◌∷◌, ◌++◌, length, get_or, drop, take, inl, inr, ◌⊎◌, ◌-◌, ◌<◌, refl, sym, ap, ◌∙◌, subst, append_assoc, arith}
-use Rattle.std.specs.List.{flat_map}
 use Rattle.std.proofs.lemmas.List.{drop_all, take_all}
-use Rattle.pmt_model.specs.declared.finding.Finding.{Finding}
-use Rattle.pmt_model.specs.declared.finding.Verdict.{Verdict}
-use Rattle.pmt_model.specs.Analyses.{reported_at}
-use Rattle.pmt_text.specs.LineTexts.{Puts}
+use Rattle.pmt_laws.specs.Prelude.{Finding, Verdict, reported_at, flat_map}
+use Rattle.pmt_text.specs.Spelling.{Puts}
 use Rattle.pmt_text.proofs.LinePutting.{put-then, put-fewer, whole-line}
-use Rattle.pmt_report.specs.Entries.{verdict_entry, finding_entry, is_before, verdicts_before, verdicts_from, entries}
+use Rattle.pmt_report.specs.Reports.{verdict_entry, finding_entry, is_before, verdicts_before, verdicts_from, entries}
 
 -- the next verdict stands before all findings that are left
 pub verdict-next : (v : Verdict) (vs : List Verdict) (fs : List Finding) → is_before v fs ≡ true → entries fs (v ∷ vs) ≡ verdict_entry v ++ entries fs vs

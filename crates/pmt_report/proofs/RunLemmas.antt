@@ -2,24 +2,20 @@
 use Rattle.std.proofs.Common.{◌≡◌, ℕ, Bool, true, false, List, length, Option, Result, Ok, Err, refl, sym, ap, ◌∙◌, subst}
 use Rattle.std.specs.Prelude.{◌||◌, IfOk}
 use Rattle.std.specs.Io.KnownBytes.{Appends}
-use Rattle.std.specs.List.{list_any}
-use Rattle.pmt_model.specs.Traces.{Recording}
+use Rattle.pmt_laws.specs.Prelude.{list_any, Recording}
 use Rattle.pmt_text.specs.Coming.{Coming, ComesWhole}
 use Rattle.pmt_tables.specs.Flags.{marked_from}
-use Rattle.pmt_trimming.specs.Streaming.{IsTextOfTrimmed}
-use Rattle.pmt_trimming.specs.WholeTexts.{IsTextOfWhole}
+use Rattle.pmt_trimming.specs.Streaming.{IsTextOfTrimmed, IsTextOfWhole}
 use Rattle.pmt_text.specs.declared.kind.SourceError.{SourceError}
 use Rattle.pmt_text.specs.declared.kind.SourceError.TheVariants as sources
 use Rattle.pmt_report.specs.Faults.{run_fault}
 use Rattle.pmt_report.specs.Reports.{report}
 use Rattle.pmt_report.specs.declared.fault.RunError.{RunError}
 use Rattle.pmt_report.specs.declared.fault.RunError.TheVariants.{BadWorkers, Text, TooMany, Read, PastEnd, OutOfMemory, Write}
-use Rattle.pmt_report.specs.Runs.{IsAnalysisFault, IsComputed, WritesText, Runs, run_read_faults, tells_workers, write_faults}
+use Rattle.pmt_report.specs.Runs.{IsAnalysisFault, IsComputed, WritesText, Runs, run_read_faults, tells_workers, write_faults, WritesReport}
 use Rattle.pmt_analysis.specs.Analysing.{Analysed, IsAnalysed}
 use Rattle.pmt_report.specs.declared.checked.CheckedTrace.{CheckedTrace}
-use Rattle.pmt_report.specs.Checking.{IsFoundIn}
-use Rattle.pmt_report.specs.Chunking.{WritesReport}
-use Rattle.pmt_report.specs.Checks.{TellsCheck, IsReportOf, is_failure, is_loss, report_for, unanswered}
+use Rattle.pmt_report.specs.Checks.{IsFoundIn, TellsCheck, IsReportOf, is_failure, is_loss, report_for, unanswered}
 
 -- an answer that was computed and then written
 pub runs-written : (IsAnswer : Recording → List ℕ → Type 0) (IsFault : Option Coming → RunError → Type 0) (coming : Option Coming) (old new : Option (List ℕ)) (text : List ℕ)

@@ -6,7 +6,7 @@ use Rattle.pmt_text.specs.declared.source.SourceState.TheVariants.{Open, Ended, 
 use Rattle.pmt_text.specs.Coming.{Coming}
 use Rattle.pmt_text.specs.Sources.{Gives, TellsNext, TakesNext, CountsReads}
 use Rattle.pmt_text.proofs.SourceLemmas.{Gives-over}
-use Rattle.pmt_report.specs.Taking.{EndsAfter, KeepsCount}
+use Rattle.pmt_report.specs.Checks.{EndsAfter, KeepsCount}
 
 -- an event leaves an open source open
 pub open-some : (s new : SourceState) (e : Event) → s ≡ Open → TellsNext s (Ok (Some e)) new → new ≡ Open

@@ -1,12 +1,4 @@
 pub mod Faults
-pub mod RecordFaults
-pub mod Entries
-pub mod Listing
 pub mod Reports
-pub mod Taking
 pub mod Checks
-pub mod Blockwise
-pub mod Checking
 pub mod Runs
-pub mod FrontsOf
-pub mod Chunking

@@ -5,11 +5,10 @@ ghost use Rattle.pmt_text.specs.Coming.{byte_limit};
 ghost use Rattle.pmt_text.specs.Counting.{failure_count, inner_device};
 ghost use Rattle.pmt_text.specs.ScriptInputs.{ReadsWithin};
 ghost use Rattle.pmt_tables.specs.Flags.{marked_from};
-ghost use Rattle.pmt_analysis.specs.Workers.{is_worker_count};
-ghost use Rattle.pmt_report.specs.Chunking.{WritesReport};
+ghost use Rattle.pmt_analysis.specs.Analysing.{is_worker_count};
+ghost use Rattle.pmt_report.specs.Runs.{WritesReport, coming_from_reader, run_read_faults, tells_workers, write_faults};
 ghost use Rattle.pmt_report.specs.Checks.{TellsCheck, has_failed, is_failure, is_loss, report_for, unanswered};
 ghost use Rattle.pmt_report.specs.Reports.{report};
-ghost use Rattle.pmt_report.specs.Runs.{coming_from_reader, run_read_faults, tells_workers, write_faults};
 
 use crate::checked::{CheckedTrace, checked};
 use crate::fault::RunError;

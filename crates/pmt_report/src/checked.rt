@@ -1,17 +1,14 @@
 //! What a check finds in the events of a source. They are taken block by block, and no block is kept.
 ghost use Rattle.std.specs.Prelude.{◌≡◌, ◌==◌, ◌+◌, ◌-◌, ◌^◌, ◌<◌, ◌≤◌, ℕ, List, Option, true, not, length, IfOk, IfErr, IfSome, OnOk};
-ghost use Rattle.pmt_model.specs.Pushing.{empty, with_events};
-ghost use Rattle.pmt_model.specs.Traces.{Recording, IsTrace};
+ghost use Rattle.pmt_laws.specs.Prelude.{empty, with_events, Recording, IsTrace};
 ghost use Rattle.pmt_text.specs.Coming.{ComesWhole, byte_limit};
 ghost use Rattle.pmt_text.specs.Counting.{failure_count, inner_device};
 ghost use Rattle.pmt_text.specs.ScriptInputs.{ReadsWithin};
 ghost use Rattle.pmt_text.specs.Sources.{CountsReads};
-ghost use Rattle.pmt_taking.specs.Blocks.{Shown, TakesBlock, shown_by};
-ghost use Rattle.pmt_taking.specs.Sourcing.{IsFaultOf, TellsRefusal, TellsTaken, told_by};
+ghost use Rattle.pmt_taking.specs.Sourcing.{Shown, TakesBlock, shown_by, IsFaultOf, TellsRefusal, TellsTaken, told_by};
 ghost use Rattle.pmt_sweep.specs.Passing.{HasSwept};
-ghost use Rattle.pmt_analysis.specs.Workers.{is_worker_count};
-ghost use Rattle.pmt_report.specs.Blockwise.{IsTakenSoFar};
-ghost use Rattle.pmt_report.specs.Checking.{HasTaken, IsCheckOf, IsFoundIn};
+ghost use Rattle.pmt_analysis.specs.Analysing.{is_worker_count};
+ghost use Rattle.pmt_report.specs.Checks.{IsTakenSoFar, HasTaken, IsCheckOf, IsFoundIn};
 ghost use Rattle.pmt_report.specs.Runs.{IsAnalysisFault, coming_from_reader, run_read_faults, tells_workers};
 
 use crate::fault::{RunError, run_error};

@@ -1,8 +1,7 @@
 //! A long text, written chunk by chunk.
 ghost use Rattle.std.specs.Prelude.{◌≡◌, ℕ, List, [], ◌+◌, ◌-◌, ◌^◌, ◌<◌, ◌≤◌, ◌++◌, length, Option, IfOk, OnOk};
 ghost use Rattle.pmt_text.specs.Counting.{inner_device, failure_count};
-ghost use Rattle.pmt_report.specs.Chunking.{IsPut, PutsOn};
-ghost use Rattle.pmt_report.specs.Runs.{WritesText, write_faults};
+ghost use Rattle.pmt_report.specs.Runs.{IsPut, PutsOn, WritesText, write_faults};
 
 use crate::fault::RunError;
 use pmt_model::OutOfMemory;

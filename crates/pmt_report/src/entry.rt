@@ -1,9 +1,7 @@
 //! The lines of a report, each spelled from its end to its front.
 ghost use Rattle.std.specs.Prelude.{◌≡◌, ◌+◌, ◌-◌, ◌++◌, ◌≤◌, length, drop, codes};
-ghost use Rattle.pmt_text.specs.LineTexts.{Puts};
-ghost use Rattle.pmt_text.specs.Spelling.{numeral};
-ghost use Rattle.pmt_report.specs.Entries.{entries, finding_entry, finding_line, flushed_word, is_before, assertion_word, verdict_entry, verdict_word};
-ghost use Rattle.pmt_report.specs.Reports.{report_end, report_head};
+ghost use Rattle.pmt_text.specs.Spelling.{Puts, numeral};
+ghost use Rattle.pmt_report.specs.Reports.{entries, finding_entry, finding_line, flushed_word, is_before, assertion_word, verdict_entry, verdict_word, report_end, report_head};
 
 use pmt_model::{Finding, Verdict};
 use pmt_sweep::Noted;

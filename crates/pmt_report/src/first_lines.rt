@@ -1,12 +1,10 @@
 //! The lines of the first events of a source. No event is kept.
 ghost use Rattle.std.specs.Prelude.{◌≡◌, suc, ◌<◌, ◌≤◌, ℕ, List, Option, ◌∷◌, length, IfOk, IfErr, IfSome, OnOk};
-ghost use Rattle.pmt_model.specs.Machine.{Act};
-ghost use Rattle.pmt_model.specs.Pushing.{empty, with_event};
-ghost use Rattle.pmt_model.specs.Traces.{Recording, IsEventIn, act, event_limit};
+ghost use Rattle.pmt_laws.specs.Prelude.{Act, empty, with_event, Recording, IsEventIn, act, event_limit};
 ghost use Rattle.pmt_text.specs.Sources.{CountsReads};
 ghost use Rattle.pmt_taking.specs.Sourcing.{IsFaultOf, TellsRefusal, told_by};
 ghost use Rattle.pmt_book.specs.Live.{IsLive};
-ghost use Rattle.pmt_report.specs.FrontsOf.{AreLinesOf, TakesLines};
+ghost use Rattle.pmt_report.specs.Reports.{AreLinesOf, TakesLines};
 
 use pmt_book::LiveLines;
 use pmt_model::{Event, Format, Op, OutOfMemory, line_of};

@@ -1,10 +1,8 @@
 //! The fronts of a trace.
 ghost use Rattle.std.specs.Prelude.{◌≡◌, ◌++◌, length, IfOk, OnOk};
-ghost use Rattle.std.specs.List.{flat_map};
-ghost use Rattle.pmt_model.specs.Traces.{Recording};
+ghost use Rattle.pmt_laws.specs.Prelude.{flat_map, Recording};
 ghost use Rattle.pmt_tables.specs.Slots.{IsSlotOf};
-ghost use Rattle.pmt_report.specs.FrontsOf.{AreLinesOf};
-ghost use Rattle.pmt_report.specs.Reports.{fronts_text, line_entry, lines_at};
+ghost use Rattle.pmt_report.specs.Reports.{AreLinesOf, fronts_text, line_entry, lines_at};
 
 use crate::first_lines::TraceLines;
 use crate::texts::{push_front_entry, push_fronts_head};

@@ -4,7 +4,7 @@ ghost use Rattle.pmt_text.specs.Coming.{Coming, byte_limit};
 ghost use Rattle.pmt_text.specs.ScriptInputs.{ReadsWithin};
 ghost use Rattle.pmt_text.specs.declared.source.SourceState.{SourceState};
 ghost use Rattle.pmt_text.specs.Counting.{failure_count, inner_device};
-ghost use Rattle.pmt_report.specs.FrontsOf.{TakesLines};
+ghost use Rattle.pmt_report.specs.Reports.{TakesLines};
 ghost use Rattle.pmt_report.specs.Runs.{CountsRuns, IsComputed, IsFrontsAt, IsFrontsFault, Runs, coming_from_reader, run_read_faults, write_faults};
 
 use crate::fault::{RunError, run_error};

@@ -1,6 +1,6 @@
 //! Why scripts were not recorded: the fault lines and statuses of `record`.
 ghost use Rattle.std.specs.Prelude.{◌≡◌, IfOk, string_bytes};
-ghost use Rattle.pmt_report.specs.RecordFaults.{record_line, record_status};
+ghost use Rattle.pmt_report.specs.Faults.{record_line, record_status};
 
 use pmt_model::OutOfMemory;
 use pmt_text::TextError;

@@ -1,10 +1,8 @@
 //! The report of an analysis.
 ghost use Rattle.std.specs.Prelude.{◌≡◌, ◌++◌, ◌+◌, ◌-◌, ◌^◌, ◌<◌, ◌≤◌, ℕ, List, Option, length, IfOk, OnOk};
 ghost use Rattle.pmt_text.specs.Counting.{inner_device, failure_count};
-ghost use Rattle.pmt_report.specs.Chunking.{IsPut, PutsOn, WritesReport};
-ghost use Rattle.pmt_report.specs.Entries.{entries};
-ghost use Rattle.pmt_report.specs.Reports.{report};
-ghost use Rattle.pmt_report.specs.Runs.{write_faults};
+ghost use Rattle.pmt_report.specs.Runs.{IsPut, PutsOn, WritesReport, write_faults};
+ghost use Rattle.pmt_report.specs.Reports.{entries, report};
 
 use crate::chunks::Chunks;
 use crate::entry::{spell_end, spell_head, spell_next, spelled};

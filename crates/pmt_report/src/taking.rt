@@ -3,7 +3,7 @@ ghost use Rattle.std.specs.Prelude.{◌≡◌, ℕ, List, Option, IfErr, OnOk};
 ghost use Rattle.pmt_model.specs.declared.event.Event.{Event as EventValue};
 ghost use Rattle.pmt_text.specs.declared.source.SourceState.{SourceState};
 ghost use Rattle.pmt_text.specs.Sources.{CountsReads};
-ghost use Rattle.pmt_report.specs.Taking.{EndsAfter, IsTakingFault};
+ghost use Rattle.pmt_report.specs.Checks.{EndsAfter, IsTakingFault};
 
 use pmt_text::{EventSource, SourceError};
 

@@ -4,7 +4,7 @@ ghost use Rattle.pmt_text.specs.Coming.{byte_limit};
 ghost use Rattle.pmt_text.specs.Counting.{failure_count, inner_device};
 ghost use Rattle.pmt_text.specs.ScriptInputs.{ReadsWithin};
 ghost use Rattle.pmt_trimming.specs.Streaming.{IsTextOfTrimmed};
-ghost use Rattle.pmt_analysis.specs.Workers.{is_worker_count};
+ghost use Rattle.pmt_analysis.specs.Analysing.{is_worker_count};
 ghost use Rattle.pmt_report.specs.Runs.{IsAnalysisFault, Runs, coming_from_reader, run_read_faults, tells_workers, write_faults};
 
 use crate::fault::{RunError, run_error};

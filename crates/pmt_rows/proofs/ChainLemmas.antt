@@ -4,7 +4,7 @@ use Rattle.std.specs.Prelude.{slice_index, slice_set}
 use Rattle.std.proofs.lemmas.Bool.{cases_eq}
 use Rattle.std.proofs.lemmas.List.{get_or-set_same, get_or-set_other, length-set}
 use Rattle.pmt_model.specs.Selections.{Has}
-use Rattle.pmt_rows.specs.Chains.{IsChain, with_place}
+use Rattle.pmt_rows.specs.Known.{IsChain, with_place}
 
 -- the chain of a number above low begins with it
 pub record IsStep (entries : List ℕ) (low number : ℕ) (stores : List ℕ) : Type 0 where

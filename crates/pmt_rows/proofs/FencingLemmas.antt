@@ -4,22 +4,18 @@ use Rattle.std.specs.Prelude.{nat_lt, ◌||◌, slice_index_or, if◌then◌else
 use Rattle.std.proofs.lemmas.Bool.{ltb-true}
 use Rattle.std.proofs.lemmas.List.{drop_all}
 use Rattle.std.proofs.lemmas.Option.{slice_get-get_or}
-use Rattle.pmt_model.specs.Traces.{Recording, history}
+use Rattle.pmt_laws.specs.Prelude.{Recording, history, last_flush}
 use Rattle.pmt_tables.specs.Flags.{MarksThese}
 use Rattle.pmt_tables.proofs.MarkLemmas.{marks-nothing, marks-one}
-use Rattle.pmt_model.specs.Findings.{last_flush}
 use Rattle.pmt_safety.specs.Safety.{last_line_store, safe_store_at}
-use Rattle.pmt_rows.specs.Chains.{IsChain, with_place}
-use Rattle.pmt_rows.specs.Linked.{raised}
+use Rattle.pmt_rows.specs.Known.{IsChain, with_place, raised, AreRows, IsKnownWith}
 use Rattle.pmt_rows.proofs.LinkedLemmas.{raise_links}
 use Rattle.pmt_tables.specs.Slots.{IsSlotOf}
 use Rattle.pmt_rows.specs.declared.rows.Rows.{Rows}
-use Rattle.pmt_rows.specs.Known.{AreRows, IsKnownWith}
 use Rattle.pmt_rows.proofs.RowLemmas.{rows-same}
 use Rattle.pmt_rows.proofs.WaitingLemmas.{raise-max}
 use Rattle.pmt_rows.specs.declared.open.OpenFlush.{OpenFlush}
-use Rattle.pmt_rows.specs.Waiting.{Waiting, waits, raise_all, raise_one}
-use Rattle.pmt_rows.specs.Fencing.{IsAtFence, IsRaisable, raisers, some_raises, waits_all}
+use Rattle.pmt_rows.specs.Waiting.{Waiting, waits, raise_all, raise_one, IsAtFence, IsRaisable, raisers, some_raises, waits_all}
 
 below-true : (a b : ℕ) → a < b → nat_lt a b ≡ true
 below-true a b h = go (nat_lt a b) refl

@@ -3,7 +3,7 @@ use Rattle.std.proofs.Common.{◌≡◌, Bool, true, false, ◌==◌, ◌&&◌, 
 use Rattle.std.specs.Prelude.{◌||◌, not}
 use Rattle.std.proofs.lemmas.Bool.{ne_eqb}
 use Rattle.pmt_safety.specs.Safety.{has_flushed}
-use Rattle.pmt_rows.specs.Flushed.{FlushersGoOn}
+use Rattle.pmt_rows.specs.Threads.{FlushersGoOn}
 
 and-true : (b : Bool) → (b && true) ≡ b
 and-true true = refl

@@ -1,26 +1,19 @@
 -- What the flushes that wait for a fence raise, what they mark, and which of them are kept.
 use Rattle.std.proofs.Common.{◌≡◌, ℕ, zero, suc, ◌<◌, ◌≤◌, inl, inr, ◌==◌, Bool, true, false, List, [], ◌∷◌, ◌++◌, length, map, max, get_or, refl, sym, ap, subst, ◌∙◌, eqb-true, arith}
 use Rattle.std.specs.Prelude.{◌||◌, nat_lt, if◌then◌else◌}
-use Rattle.std.specs.List.{AllByRecursion}
 use Rattle.std.proofs.lemmas.Bool.{eq-eqb, ltb-true}
 use Rattle.std.proofs.lemmas.List.{map-append}
-use Rattle.pmt_model.specs.Machine.{Act, Stores, Flushes, Clflushes, Fences, Asserts, count}
-use Rattle.pmt_model.specs.Traces.{Recording, IsAct, history}
-use Rattle.pmt_model.specs.Keeping.{IsKept}
+use Rattle.pmt_laws.specs.Prelude.{Act, Stores, Flushes, Clflushes, Fences, Asserts, count, Recording, IsAct, history, IsKept, AllByRecursion}
 use Rattle.pmt_laws.specs.Passing.{Flushed, open_flushes}
 use Rattle.pmt_laws.proofs.Histories.{act-within, history-act, history-step, length-history}
-use Rattle.pmt_safety.specs.Safety.{last_line_store, last_line_store_at, marked_store_at, safe_store, safe_store_at}
-use Rattle.pmt_safety.specs.Marking.{store_of, last_marked}
+use Rattle.pmt_safety.specs.Safety.{last_line_store, last_line_store_at, marked_store_at, safe_store, safe_store_at, store_of, last_marked}
 use Rattle.pmt_safety.proofs.MarkingLemmas.{fence_keeps}
 use Rattle.pmt_safety.proofs.StoreLemmas.{IsLineStore, last-is_store}
 use Rattle.pmt_safety.proofs.KeptLemmas.{kept_fence_by_stores}
-use Rattle.pmt_rows.specs.Linked.{raised}
-use Rattle.pmt_rows.specs.Waiting.{Waiting, waiting, raise_all, raise_one}
-use Rattle.pmt_rows.specs.Fencing.{some_raises}
+use Rattle.pmt_rows.specs.Known.{raised, IsKnownWith}
+use Rattle.pmt_rows.specs.Waiting.{Waiting, waiting, raise_all, raise_one, some_raises, KeptByRaise, FenceKeptByRaise}
 use Rattle.pmt_rows.specs.declared.rows.Rows.{Rows}
-use Rattle.pmt_rows.specs.Known.{IsKnownWith}
 use Rattle.pmt_rows.proofs.RowLemmas.{kept-same}
-use Rattle.pmt_rows.specs.Keeping.{KeptByRaise, FenceKeptByRaise}
 use Rattle.pmt_rows.proofs.WaitingLemmas.{fence-raises, raise-max}
 
 length-before : (T : Recording) (n : ℕ) (a : Act) → IsAct T (suc n) a → length (history T n) ≡ n

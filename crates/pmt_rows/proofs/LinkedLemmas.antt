@@ -3,16 +3,12 @@ use Rattle.std.proofs.Common.{◌≡◌, ℕ, zero, suc, ◌<◌, ◌≤◌, ◌
 use Rattle.std.specs.Prelude.{if◌then◌else◌, slice_index}
 use Rattle.std.proofs.lemmas.Bool.{cases_lt, eqb-false}
 use Rattle.std.proofs.lemmas.List.{get_or_append_left, get_or_push, length_push}
-use Rattle.pmt_model.specs.Values.{Written}
-use Rattle.pmt_model.specs.Machine.{Act, Stores, Flushes, Clflushes, Fences, Asserts}
-use Rattle.pmt_model.specs.Traces.{Recording, IsAct, act}
-use Rattle.pmt_model.specs.Selections.{Has}
+use Rattle.pmt_laws.specs.Prelude.{Written, Act, Stores, Flushes, Clflushes, Fences, Asserts, Recording, IsAct, act, Has}
 use Rattle.pmt_laws.proofs.Histories.{act-unique, act-within, event-some}
 use Rattle.pmt_safety.specs.Safety.{last_line_store_at, safe_store_at, IsSafeFrom}
 use Rattle.pmt_safety.proofs.StoreLemmas.{IsLineStore, last-is_store, last-greatest, safe-is_store}
 use Rattle.pmt_safety.proofs.SafetyLemmas.{safe-up_to, safe-later, safe_from_is_passed}
-use Rattle.pmt_rows.specs.Chains.{IsChain, with_place}
-use Rattle.pmt_rows.specs.Linked.{AreLinked, NoneLinked, EachLinked, raised, RaiseLinks, PendingIsBelow}
+use Rattle.pmt_rows.specs.Known.{IsChain, with_place, AreLinked, NoneLinked, EachLinked, raised, RaiseLinks, PendingIsBelow}
 use Rattle.pmt_rows.proofs.ChainLemmas.{length-with_place, placed-in, placed-out}
 
 line_store-by_now : (T : Recording) (l n j : ℕ) → IsLineStore T l n j → j ≤ n

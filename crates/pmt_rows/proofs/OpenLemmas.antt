@@ -5,8 +5,7 @@ use Rattle.std.proofs.lemmas.Bool.{cases_eq, eq-eqb, ne_eqb}
 use Rattle.std.proofs.lemmas.List.{get_or-map, get_or-set_same, get_or-set_other, get_or_append_left, length-append, length-map, map-append, map-set, take-map}
 use Rattle.std.proofs.lemmas.List.Elements.{All-push, All-take}
 use Rattle.std.proofs.Math.Seq.{take-append_seam}
-use Rattle.pmt_model.specs.Machine.{Act, Stores, Flushes, Clflushes, Fences, Asserts}
-use Rattle.pmt_model.specs.Traces.{has_line}
+use Rattle.pmt_laws.specs.Prelude.{Act, Stores, Flushes, Clflushes, Fences, Asserts, has_line}
 use Rattle.pmt_rows.specs.declared.open.OpenFlush.{OpenFlush}
 use Rattle.pmt_rows.specs.Waiting.{Waiting, waiting_by, list_at, waits, AreWaitingBy, LacksLast, WaitsOn}
 

@@ -1,21 +1,16 @@
 -- What is known of lines: one more line, and what changes a row.
 use Rattle.std.proofs.Common.{◌≡◌, ◌≢◌, ℕ, suc, ◌<◌, Bool, true, false, List, [], ◌∷◌, ◌++◌, length, max, get_or, set, map, refl, sym, ap, subst, ◌∙◌, eqb-true, arith}
 use Rattle.std.specs.Prelude.{◌==◌, not, nat_eq, slice_get, if◌then◌else◌}
-use Rattle.std.specs.List.{list_any, IsDistinct}
 use Rattle.std.proofs.lemmas.Bool.{eq-eqb, ne_eqb, both_ways}
 use Rattle.std.proofs.lemmas.List.{get_or-map, length-map, map-append}
 use Rattle.std.proofs.lemmas.Option.{get_or_from_slice_get, slice_get_within}
-use Rattle.pmt_model.specs.Machine.{Act, Stores, Flushes, Clflushes}
-use Rattle.pmt_model.specs.Values.{Written}
-use Rattle.pmt_model.specs.Traces.{has_line, with_line}
-use Rattle.pmt_model.specs.Findings.{last_flush}
+use Rattle.pmt_laws.specs.Prelude.{Act, Stores, Flushes, Clflushes, Written, has_line, with_line, last_flush, list_any, IsDistinct}
 use Rattle.pmt_safety.specs.Safety.{last_line_store, safe_store}
-use Rattle.pmt_rows.specs.Linked.{raised}
+use Rattle.pmt_rows.specs.Known.{raised, row_by, empty_row, AreRows, IsKnownWith, RowsBySame}
 use Rattle.pmt_tables.specs.Slots.{IsSlotOf, insert_line}
 use Rattle.pmt_tables.proofs.ListLemmas.{among, map-same, map-set_one, list_any-has_line, has_line-less}
 use Rattle.pmt_rows.specs.declared.rows.Row.{Row}
 use Rattle.pmt_rows.specs.declared.rows.Rows.{Rows}
-use Rattle.pmt_rows.specs.Known.{row_by, empty_row, AreRows, IsKnownWith, RowsBySame}
 
 abbrev row_of : ℕ → ℕ → ℕ → Row
 row_of last safe flush = record { last_store = last; safe = safe; last_flush = flush }

@@ -1,5 +1,5 @@
 -- One thread more in a list and in a table.
-use Rattle.std.proofs.Common.{◌≡◌, ℕ, ◌<◌, ◌==◌, List, [], length, take, replicate, refl, ap}
+use Rattle.std.proofs.Common.{◌≡◌, ℕ, ◌<◌, ◌==◌, List, length, take, replicate, refl, ap}
 use Rattle.std.specs.Prelude.{not}
 use Rattle.std.proofs.lemmas.List.{get_or-replicate}
 use Rattle.pmt_rows.specs.Threads.{in_list, in_table}

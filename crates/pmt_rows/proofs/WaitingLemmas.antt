@@ -4,7 +4,7 @@ use Rattle.std.specs.Prelude.{◌==◌, ◌&&◌, ◌||◌, ◌↔◌, not, nat_
 use Rattle.std.proofs.lemmas.Bool.{eq-eqb, eqb-true, ltb-true}
 use Rattle.pmt_model.specs.Machine.{Act, Stores, Flushes, Clflushes, Fences, Asserts}
 use Rattle.pmt_safety.specs.Safety.{last_line_store, marked_store, safe_store, has_open_flush}
-use Rattle.pmt_rows.specs.Linked.{raised}
+use Rattle.pmt_rows.specs.Known.{raised}
 use Rattle.pmt_rows.specs.Waiting.{Waiting, waiting, raise_one, raise_all, FenceRaises, OpenTells}
 
 -- thread t has flushed line l since its last fence

@@ -1,8 +1,3 @@
-pub mod Chains
-pub mod Linked
-pub mod Threads
-pub mod Flushed
 pub mod Known
+pub mod Threads
 pub mod Waiting
-pub mod Fencing
-pub mod Keeping

@@ -1,10 +1,10 @@
--- The flushes that wait for a fence.
-use Rattle.std.specs.Prelude.{◌≡◌, ◌≢◌, ℕ, suc, ◌-◌, ◌<◌, ◌↔◌, ◌==◌, nat_lt, true, if◌then◌else◌, List, [], ◌∷◌, ◌++◌, length, take, slice_index_or, All, map}
-use Rattle.pmt_model.specs.Machine.{Act, Stores, Flushes, Clflushes, Fences, Asserts}
-use Rattle.pmt_model.specs.Traces.{with_line}
-use Rattle.pmt_safety.specs.Safety.{last_line_store, safe_store, has_open_flush}
-use Rattle.pmt_rows.specs.Linked.{raised}
+-- The flushes that wait for a fence, what it does to their lines, and which are kept.
+use Rattle.std.specs.Prelude.{◌≡◌, ◌≢◌, ℕ, suc, ◌-◌, ◌<◌, ◌↔◌, ◌==◌, nat_lt, true, if◌then◌else◌, List, [], ◌∷◌, ◌++◌, length, take, slice_index_or, All, map, ◌≤◌, ◌⊎◌, ◌||◌, Bool, false}
+use Rattle.pmt_laws.specs.Prelude.{Act, Stores, Flushes, Clflushes, Fences, Asserts, with_line, Written, Recording, IsAct, history, IsKept}
+use Rattle.pmt_safety.specs.Safety.{last_line_store, safe_store, has_open_flush, safe_store_at}
+use Rattle.pmt_rows.specs.Known.{raised, AreLinked, IsKnownWith}
 use Rattle.pmt_rows.specs.declared.open.OpenFlush.{OpenFlush}
+use Rattle.pmt_rows.specs.declared.rows.Rows.{Rows}
 
 -- A flush by its number, with its line and the last store to that when it came, or 0.
 pub record Waiting : Type 0 where
@@ -74,3 +74,48 @@ pub record WaitsOn (last : ℕ → List Act → ℕ) : Type 0 where
       AreWaitingBy last lines (Fences t ∷ h) new
   pub others : (lines : List ℕ) (h : List Act) (lists : List (List OpenFlush)) (a : Act) → ((t l : ℕ) → a ≡ Flushes t l → ⊥) → ((t : ℕ) → a ≡ Fences t → ⊥) → AreWaitingBy last lines h lists →
       AreWaitingBy last lines (a ∷ h) lists
+
+-- ---- What a fence does to the lines that its thread has flushed
+
+-- Event n + 1 is a fence that is under way: `safe` has the last safe store of each line so far, as the rows and the entries tell it.
+pub record IsAtFence (T : Recording) (lines : List ℕ) (n : ℕ) (safe : ℕ → ℕ) (r : Rows) (xs : List ℕ) : Type 0 where
+  pub rows : IsKnownWith lines (history T n) safe r
+  pub entries : AreLinked T n safe xs
+  pub above : (l : ℕ) → safe_store_at T l n ≤ safe l
+
+-- The flush marks a store to its line, or 0, which is safe after the fence.
+pub record IsRaisable (T : Recording) (lines : List ℕ) (n : ℕ) (f : OpenFlush) : Type 0 where
+  pub within : f.slot < length lines
+  pub store : (f.store ≡ 0) ⊎ ((w : Written) × IsAct T f.store (Stores (slice_index_or lines f.slot 0) w))
+  pub by_now : f.store ≤ n
+  pub later : f.store ≤ safe_store_at T (slice_index_or lines f.slot 0) (suc n)
+
+-- Flushes wait for a fence that is the event with this number.
+pub record AreAtFence (T : Recording) (lines : List ℕ) (n number : ℕ) (safe : ℕ → ℕ) (r : Rows) (xs : List ℕ) (flushes : List OpenFlush) : Type 0 where
+  pub numbered : number ≡ suc n
+  pub at : IsAtFence T lines n safe r xs
+  pub each : All (IsRaisable T lines n) flushes
+
+abbrev pub waits_all : List ℕ → List OpenFlush → List Waiting
+waits_all lines flushes = map (waits lines) flushes
+
+-- Whether one of them takes the last safe store of its line to a later one, from the newest to the oldest.
+abbrev pub some_raises : List Waiting → (ℕ → ℕ) → Bool
+some_raises [] safe = false
+some_raises (w ∷ ws) safe = nat_lt (raise_all ws safe w.line) w.store || some_raises ws safe
+
+-- The numbers of those that do.
+abbrev pub raisers : List Waiting → (ℕ → ℕ) → List ℕ
+raisers [] safe = []
+raisers (w ∷ ws) safe = if nat_lt (raise_all ws safe w.line) w.store then w.number ∷ raisers ws safe else raisers ws safe
+
+-- Of the flushes that wait for a fence, those are kept that take the last safe store of their line to a later one, from the newest to the
+-- oldest.
+abbrev pub KeptByRaise : Type 0
+KeptByRaise =
+    (T : Recording) (t n : ℕ) (older newer : List Waiting) (w : Waiting) → IsAct T (suc n) (Fences t) → waiting t (history T n) ≡ older ++ w ∷ newer →
+    IsKept T w.number ↔ (raise_all newer (λ l. safe_store_at T l n) w.line < w.store)
+
+-- The fence is kept exactly where one of them does so.
+abbrev pub FenceKeptByRaise : Type 0
+FenceKeptByRaise = (T : Recording) (t n : ℕ) → IsAct T (suc n) (Fences t) → (some_raises (waiting t (history T n)) (λ l. safe_store_at T l n) ≡ true) ↔ IsKept T (suc n)

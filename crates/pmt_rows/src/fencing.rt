@@ -2,8 +2,7 @@
 ghost use Rattle.std.specs.Prelude.{◌≡◌, ℕ, suc, ◌<◌, ◌≤◌, List, length, nat_lt, slice_index_or, All};
 ghost use Rattle.pmt_model.specs.Traces.{Recording};
 ghost use Rattle.pmt_tables.specs.Flags.{MarksThese};
-ghost use Rattle.pmt_rows.specs.Waiting.{raise_all, raise_one, waits};
-ghost use Rattle.pmt_rows.specs.Fencing.{AreAtFence, IsAtFence, IsRaisable, raisers, some_raises, waits_all};
+ghost use Rattle.pmt_rows.specs.Waiting.{raise_all, raise_one, waits, AreAtFence, IsAtFence, IsRaisable, raisers, some_raises, waits_all};
 
 use crate::{Links, OpenFlush, Rows};
 

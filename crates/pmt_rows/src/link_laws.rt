@@ -1,6 +1,6 @@
 //! What the entries tell of a trace: each function has an empty body, and its contract states a law.
 
-ghost use Rattle.pmt_rows.specs.Linked.{EachLinked, NoneLinked, PendingIsBelow, RaiseLinks};
+ghost use Rattle.pmt_rows.specs.Known.{EachLinked, NoneLinked, PendingIsBelow, RaiseLinks};
 
 /// Before the first event the entry at 0 alone tells all.
 pub fn none_linked()

@@ -1,6 +1,6 @@
 //! The entries of events, and a walk over those of one line.
 ghost use Rattle.std.specs.Prelude.{◌≡◌, ℕ, ◌<◌, List, [], ◌∷◌, ◌++◌, length, slice_index, IfOk, OnOk, OnErr};
-ghost use Rattle.pmt_rows.specs.Chains.{IsChain, with_place};
+ghost use Rattle.pmt_rows.specs.Known.{IsChain, with_place};
 
 use pmt_model::OutOfMemory;
 use std::alloc::Global;

@@ -1,10 +1,8 @@
 //! Of each line a row.
 ghost use Rattle.std.specs.Prelude.{◌≡◌, ℕ, ◌<◌, ◌^◌, List, [], length, max, nat_eq, IfOk, OnOk, OnErr};
-ghost use Rattle.std.specs.List.{IsDistinct};
-ghost use Rattle.pmt_model.specs.Traces.{with_line};
-ghost use Rattle.pmt_rows.specs.Linked.{raised};
+ghost use Rattle.pmt_laws.specs.Prelude.{IsDistinct, with_line};
+ghost use Rattle.pmt_rows.specs.Known.{raised, AreRows, row_by};
 ghost use Rattle.pmt_tables.specs.Slots.{IsSlotOf};
-ghost use Rattle.pmt_rows.specs.Known.{AreRows, row_by};
 
 use pmt_model::OutOfMemory;
 use pmt_tables::LineSlots;

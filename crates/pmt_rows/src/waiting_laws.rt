@@ -2,8 +2,7 @@
 
 ghost use Rattle.std.specs.Prelude.{ℕ, List};
 ghost use Rattle.pmt_model.specs.Machine.{Act};
-ghost use Rattle.pmt_rows.specs.Keeping.{FenceKeptByRaise, KeptByRaise};
-ghost use Rattle.pmt_rows.specs.Waiting.{FenceRaises, OpenTells, WaitsOn};
+ghost use Rattle.pmt_rows.specs.Waiting.{FenceKeptByRaise, KeptByRaise, FenceRaises, OpenTells, WaitsOn};
 
 /// A fence that goes over its thread's open flushes, from the newest to the oldest, and takes the last safe store of each line to the
 /// store that the flush marks where that is later, leaves the last safe stores as they are after it.

@@ -2,16 +2,12 @@
 use Rattle.std.proofs.Common.{◌≡◌, ℕ, zero, suc, ◌-◌, ◌<◌, ◌≤◌, inl, inr, Bool, true, false, ◌==◌, ◌&&◌, ◌∷◌, max, refl, sym, ap, subst, ◌∙◌, true≢false, eqb-true, eq-eqb, arith}
 use Rattle.std.specs.Prelude.{◌||◌, not, ◌↔◌}
 use Rattle.std.proofs.lemmas.Bool.{cases_lt}
-use Rattle.pmt_model.specs.Machine.{Act, Flushes, Fences, count}
-use Rattle.pmt_model.specs.Traces.{Recording, IsAct, history, count_at}
-use Rattle.pmt_model.specs.Fronts.{front, front_at}
-use Rattle.pmt_model.specs.Findings.{IsEmptyFence}
+use Rattle.pmt_laws.specs.Prelude.{Act, Flushes, Fences, count, Recording, IsAct, history, count_at, front, front_at, IsEmptyFence}
 use Rattle.pmt_model.specs.Keeping.{IsKept, ByFlush}
 use Rattle.pmt_laws.proofs.Histories.{act-unique, act-within, history-act, history-step, count-mono}
 use Rattle.pmt_laws.proofs.NeededFlushes.{kept-needed}
 use Rattle.pmt_laws.proofs.PassLemmas.{fence_is_kept, clflush_is_kept}
-use Rattle.pmt_safety.specs.Safety.{last_line_store_at, marked_store_at, safe_store_at, has_open_flush}
-use Rattle.pmt_safety.specs.Closed.{EmptyFenceByFlag, KeptFlushByStores, KeptFenceByStores, KeptClflushByStores}
+use Rattle.pmt_safety.specs.Safety.{last_line_store_at, marked_store_at, safe_store_at, has_open_flush, EmptyFenceByFlag, KeptFlushByStores, KeptFenceByStores, KeptClflushByStores}
 use Rattle.pmt_safety.proofs.StoreLemmas.{count-last, count-marked, count-safe, IsLineStore, last-is_store, marked-is_store, line_store-by}
 
 -- a store comes after the last safe one exactly where it is counted above the front

@@ -1,19 +1,14 @@
 -- The stores that open flushes mark, counted.
 use Rattle.std.proofs.Common.{◌≡◌, ℕ, suc, ◌<◌, ◌≤◌, inl, inr, Bool, true, false, ◌==◌, List, [], ◌∷◌, ◌++◌, max, refl, sym, ap, subst, ◌∙◌, eqb-true, arith}
 use Rattle.std.specs.Prelude.{if◌then◌else◌, ◌↔◌}
-use Rattle.std.specs.List.{AllByRecursion}
 use Rattle.std.proofs.lemmas.Bool.{cases_lt}
 use Rattle.std.proofs.lemmas.Bool.Decides.{nat_tests}
-use Rattle.pmt_model.specs.Machine.{Fences}
-use Rattle.pmt_model.specs.Traces.{Recording, history, count_at}
-use Rattle.pmt_model.specs.Fronts.{front, front_at}
-use Rattle.pmt_model.specs.Keeping.{IsKept}
+use Rattle.pmt_laws.specs.Prelude.{Fences, Recording, history, count_at, front, front_at, IsKept, AllByRecursion}
 use Rattle.pmt_laws.specs.Passing.{Flushed, open_flushes, most}
 use Rattle.pmt_laws.proofs.Histories.{history-act, count-mono}
 use Rattle.pmt_laws.proofs.PassLemmas.{IsOpenOf, are_open, fence_raises, fence_decides}
-use Rattle.pmt_safety.specs.Safety.{safe_store_at}
+use Rattle.pmt_safety.specs.Safety.{safe_store_at, store_of, last_marked, FenceRaisesTo, FenceKeeps}
 use Rattle.pmt_safety.proofs.StoreLemmas.{count-last, count-safe, IsLineStore, last-is_store, safe-is_store, line_store-by}
-use Rattle.pmt_safety.specs.Marking.{store_of, last_marked, FenceRaisesTo, FenceKeeps}
 
 -- the later of two places counts the most
 count-max : (T : Recording) (l m n : ℕ) → count_at T l (max m n) ≡ max (count_at T l m) (count_at T l n)

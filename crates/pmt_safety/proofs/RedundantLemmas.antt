@@ -3,15 +3,11 @@ use Rattle.std.proofs.Common.{◌≡◌, ℕ, suc, ◌-◌, ◌<◌, ◌≤◌, 
 use Rattle.std.specs.Prelude.{if◌then◌else◌, ◌||◌, ◌↔◌}
 use Rattle.std.proofs.lemmas.Bool.{cases_lt, cases_eq, ne_eqb}
 use Rattle.std.proofs.lemmas.Bool.Decides.{nat_tests}
-use Rattle.pmt_model.specs.Machine.{Act, Stores, Flushes, Clflushes, count}
-use Rattle.pmt_model.specs.Traces.{Recording, history, count_at}
-use Rattle.pmt_model.specs.Fronts.{front, front_at, mark, open_mark}
-use Rattle.pmt_model.specs.Findings.{IsRedundantFlush, IsRedundantClflush}
+use Rattle.pmt_laws.specs.Prelude.{Act, Stores, Flushes, Clflushes, count, Recording, history, count_at, front, front_at, mark, open_mark, IsRedundantFlush, IsRedundantClflush}
 use Rattle.pmt_laws.proofs.Histories.{history-act, front-grows, mark-le-count}
 use Rattle.pmt_laws.proofs.NeverLemmas.{never_persisted_by_fronts}
 use Rattle.pmt_laws.proofs.RedundantLemmas.{redundant_flush_by_fronts, redundant_clflush_by_fronts}
-use Rattle.pmt_safety.specs.Safety.{last_line_store_at, safe_store_at, has_flushed}
-use Rattle.pmt_safety.specs.Closed.{NeverPersistedByStores, RedundantFlushByStores, RedundantClflushByStores}
+use Rattle.pmt_safety.specs.Safety.{last_line_store_at, safe_store_at, has_flushed, NeverPersistedByStores, RedundantFlushByStores, RedundantClflushByStores}
 use Rattle.pmt_safety.proofs.StoreLemmas.{count-last, count-safe, last-is_store, line_store-by, safe-le_last}
 use Rattle.pmt_safety.proofs.SafetyLemmas.{front-below}
 

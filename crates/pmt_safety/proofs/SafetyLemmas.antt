@@ -2,11 +2,7 @@
 use Rattle.std.proofs.Common.{◌≡◌, ℕ, ◌<◌, ◌≤◌, ◌⊎◌, inl, inr, arith}
 use Rattle.std.specs.Prelude.{◌↔◌}
 use Rattle.std.proofs.lemmas.Bool.{cases_lt}
-use Rattle.pmt_model.specs.Values.{Written}
-use Rattle.pmt_model.specs.Machine.{Stores}
-use Rattle.pmt_model.specs.Traces.{Recording, IsAct, history, count_at}
-use Rattle.pmt_model.specs.Fronts.{front_at}
-use Rattle.pmt_model.specs.Findings.{IsSafe}
+use Rattle.pmt_laws.specs.Prelude.{Written, Stores, Recording, IsAct, history, count_at, front_at, IsSafe}
 use Rattle.pmt_laws.proofs.Histories.{count-mono, front-mono}
 use Rattle.pmt_laws.proofs.AssertLemmas.{front-le-persisted, least_end}
 use Rattle.pmt_safety.specs.Safety.{safe_store_at, IsLastSafe, SafeStoreIsLast, IsSafeFrom, SafeFromIsPassed}

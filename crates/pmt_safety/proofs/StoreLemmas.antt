@@ -3,10 +3,7 @@ use Rattle.std.proofs.Common.{◌≡◌, ℕ, zero, suc, ◌≤◌, max, ◌⊎�
 use Rattle.std.specs.Prelude.{if◌then◌else◌}
 use Rattle.std.proofs.lemmas.Bool.{cases_lt}
 use Rattle.std.proofs.lemmas.Bool.Decides.{nat_tests}
-use Rattle.pmt_model.specs.Values.{Written}
-use Rattle.pmt_model.specs.Machine.{Act, Stores, Flushes, Clflushes, Fences, Asserts, count}
-use Rattle.pmt_model.specs.Traces.{Recording, IsAct, history, count_at}
-use Rattle.pmt_model.specs.Fronts.{mark, front, front_at}
+use Rattle.pmt_laws.specs.Prelude.{Written, Act, Stores, Flushes, Clflushes, Fences, Asserts, count, Recording, IsAct, history, count_at, mark, front, front_at}
 use Rattle.pmt_laws.proofs.Histories.{act-within, history-act, history-step, length-history, count-mono}
 use Rattle.pmt_laws.proofs.BoxLemmas.{count-store}
 use Rattle.pmt_safety.specs.Safety.{last_line_store, marked_store, safe_store, last_line_store_at, marked_store_at, safe_store_at}

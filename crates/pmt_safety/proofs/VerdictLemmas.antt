@@ -1,16 +1,10 @@
 -- The two assertions, by the last stores to bytes.
 use Rattle.std.proofs.Common.{◌≡◌, ℕ, zero, suc, ◌≤◌, ◌⊎◌, inl, inr, Bool, true, false, List, ◌∷◌, length, Option, Some, None, IfSome, refl, sym, ap, subst, ◌∙◌, arith}
 use Rattle.std.specs.Prelude.{if◌then◌else◌, ◌↔◌}
-use Rattle.pmt_model.specs.Values.{Written, Span}
-use Rattle.pmt_model.specs.Machine.{Act, Stores, Flushes, Clflushes, Fences, Asserts, count, writes}
-use Rattle.pmt_model.specs.Traces.{Recording, IsAct, history, count_at}
-use Rattle.pmt_model.specs.Fronts.{front, front_at}
-use Rattle.pmt_model.specs.Findings.{last_store_number}
-use Rattle.pmt_model.specs.Assertions.{Placed, last_store, InSpan, PersistPasses, OrderedPasses, up_to_last, NoLater}
+use Rattle.pmt_laws.specs.Prelude.{Written, Span, Act, Stores, Flushes, Clflushes, Fences, Asserts, count, writes, Recording, IsAct, history, count_at, front, front_at, last_store_number, Placed, last_store, InSpan, PersistPasses, OrderedPasses, up_to_last, NoLater}
 use Rattle.pmt_laws.proofs.Histories.{act-unique, history-act, history-step, count-mono}
 use Rattle.pmt_laws.proofs.AssertLemmas.{persist_by_fronts, ordered_by_fronts}
-use Rattle.pmt_safety.specs.Safety.{safe_store_at}
-use Rattle.pmt_safety.specs.Closed.{IsLastIn, PersistByStores, OrderedByStores}
+use Rattle.pmt_safety.specs.Safety.{safe_store_at, IsLastIn, PersistByStores, OrderedByStores}
 use Rattle.pmt_safety.proofs.StoreLemmas.{length-before, count-at_store, store-by}
 use Rattle.pmt_safety.proofs.SafetyLemmas.{front-covers}
 

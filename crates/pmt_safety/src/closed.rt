@@ -1,6 +1,6 @@
 //! What is found, kept and judged, by the last safe store of each line.
 
-ghost use Rattle.pmt_safety.specs.Closed.{EmptyFenceByFlag, KeptClflushByStores, KeptFenceByStores, KeptFlushByStores, NeverPersistedByStores, OrderedByStores, PersistByStores, RedundantClflushByStores, RedundantFlushByStores};
+ghost use Rattle.pmt_safety.specs.Safety.{EmptyFenceByFlag, KeptClflushByStores, KeptFenceByStores, KeptFlushByStores, NeverPersistedByStores, OrderedByStores, PersistByStores, RedundantClflushByStores, RedundantFlushByStores};
 
 /// A store is never persisted in some run exactly if it comes after the last safe one of its line at the end.
 pub fn never_persisted_by_stores()

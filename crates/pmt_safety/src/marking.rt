@@ -1,6 +1,6 @@
 //! A fence, and the flushes that its thread has made since its last one.
 
-ghost use Rattle.pmt_safety.specs.Marking.{FenceKeeps, FenceRaisesTo};
+ghost use Rattle.pmt_safety.specs.Safety.{FenceKeeps, FenceRaisesTo};
 
 /// A fence takes the last safe store of a line to the last one that an open flush of its thread marks, if that is later.
 pub fn fence_raises_to()

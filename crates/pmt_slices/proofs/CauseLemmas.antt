@@ -1,16 +1,8 @@
 -- Whether and why the stores of an assertion are pending, in the trace and in its slice.
 use Rattle.std.proofs.Common.{◌≡◌, ℕ, ◌≤◌, List, Option, Some, None, refl, arith}
 use Rattle.std.specs.Prelude.{◌↔◌}
-use Rattle.std.specs.Option.{option_map}
-use Rattle.pmt_model.specs.Values.{Written}
-use Rattle.pmt_model.specs.Machine.{Stores, Flushes, Clflushes, Fences}
-use Rattle.pmt_model.specs.Traces.{Recording, IsAct}
-use Rattle.pmt_model.specs.Findings.{IsFlushOf, ByFlush, ByClflush, IsSafe}
-use Rattle.pmt_model.specs.Selections.{Has, cut, matching_place}
+use Rattle.pmt_explain.specs.Prelude.{Written, Stores, Flushes, Clflushes, Fences, Recording, IsAct, IsFlushOf, ByFlush, ByClflush, IsSafe, Has, cut, matching_place, option_map, Cause, Later, Unflushed, Unfenced, IsUnfenced, IsFirstFenceAt, IsFirstFence, IsCause}
 use Rattle.pmt_laws.proofs.CutLemmas.{place-mono}
-use Rattle.pmt_reasons.specs.declared.cause.Cause.{Cause}
-use Rattle.pmt_reasons.specs.declared.cause.Cause.TheVariants.{Later, Unflushed, Unfenced}
-use Rattle.pmt_reasons.specs.Causes.{IsUnfenced, IsFirstFenceAt, IsFirstFence, IsCause}
 use Rattle.pmt_reasons.proofs.CauseLemmas.{cause-unsafe}
 use Rattle.pmt_safety.proofs.SafetyLemmas.{front-covers, safe-up_to, safe-later}
 use Rattle.pmt_slices.specs.Slices.{IsSubsequence, IsFirstFlush, Tells, Itself, FirstFlush, FirstFence, cause_in, SliceTells}

@@ -3,14 +3,9 @@ use Rattle.std.proofs.Common.{◌≡◌, ℕ, zero, suc, ◌<◌, ◌≤◌, ◌
 use Rattle.std.specs.Prelude.{◌↔◌}
 use Rattle.std.proofs.lemmas.Bool.{cases_lt}
 use Rattle.std.proofs.lemmas.Option.{same_Some}
-use Rattle.pmt_model.specs.Values.{Written, Span}
-use Rattle.pmt_model.specs.Machine.{Stores}
-use Rattle.pmt_model.specs.declared.event.Event.{Event}
-use Rattle.pmt_model.specs.declared.event.Op.TheVariants.{IsPersist, IsOrderedBefore}
-use Rattle.pmt_model.specs.Traces.{Recording, IsAct, event}
-use Rattle.pmt_model.specs.Selections.{IsRising, Has}
+use Rattle.pmt_laws.specs.Prelude.{Written, Span, Stores, Event, IsPersist, IsOrderedBefore, Recording, IsAct, event, IsRising, Has}
 use Rattle.pmt_laws.proofs.Histories.{act-unique, act-within}
-use Rattle.pmt_safety.specs.Closed.{IsLastIn}
+use Rattle.pmt_safety.specs.Safety.{IsLastIn}
 use Rattle.pmt_slices.specs.declared.coming.Coming.{Coming}
 use Rattle.pmt_slices.specs.Slices.{Tells, Speaks, IsRangeOf, IsInSlice, TheAssertion, OfStore, IsSlice, IsComing, IsChosen, HasChosen, Chooses, IsOfStore}
 use Rattle.pmt_slices.proofs.SliceLemmas.{tells-within, tells-some, persist-range, first-range, second-range}

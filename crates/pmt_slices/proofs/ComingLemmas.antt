@@ -1,12 +1,8 @@
 -- What comes after a place of one line, going back event by event, and what it tells of a store there.
 use Rattle.std.proofs.Common.{◌≡◌, ◌≢◌, ℕ, suc, ◌<◌, ◌≤◌, ◌⊎◌, inl, inr, min, refl, sym, subst, ◌∙◌, arith}
 use Rattle.std.proofs.lemmas.Bool.{cases_lt}
-use Rattle.pmt_model.specs.Values.{Written}
-use Rattle.pmt_model.specs.Machine.{Act, Stores, Flushes, Clflushes, Fences}
-use Rattle.pmt_model.specs.Traces.{Recording, IsAct}
-use Rattle.pmt_model.specs.Findings.{IsFlushOf, ByFlush, ByClflush}
+use Rattle.pmt_explain.specs.Prelude.{Written, Act, Stores, Flushes, Clflushes, Fences, Recording, IsAct, IsFlushOf, ByFlush, ByClflush, IsFirstFenceAt}
 use Rattle.pmt_laws.proofs.Histories.{act-unique}
-use Rattle.pmt_reasons.specs.Causes.{IsFirstFenceAt}
 use Rattle.pmt_safety.specs.Safety.{IsSafeFrom}
 use Rattle.pmt_explain.specs.Following.{IsFirst, IsFenceAfter, IsCompleteBy, ByFence, ByItself, IsCompletedAfter}
 use Rattle.pmt_explain.proofs.FirstLemmas.{first-same, first-either, first-here, first-over}

@@ -2,11 +2,7 @@
 use Rattle.std.proofs.Common.{◌≡◌, ℕ, zero, suc, ◌<◌, ◌≤◌, inl, inr, List, [], ◌∷◌, length, Option, Some, None, filter_map, refl, sym, ap, ◌∙◌, arith}
 use Rattle.std.specs.Prelude.{slice_get}
 use Rattle.std.proofs.lemmas.Bool.{cases_lt, le-leb, lt-leb}
-use Rattle.pmt_model.specs.declared.event.Event.{Event}
-use Rattle.pmt_model.specs.Machine.{Act, Stores}
-use Rattle.pmt_model.specs.Traces.{Recording, event, IsAct, history}
-use Rattle.pmt_model.specs.Findings.{last_store_number}
-use Rattle.pmt_model.specs.Selections.{IsRising, Has, cut, matching_place}
+use Rattle.pmt_laws.specs.Prelude.{Event, Act, Stores, Recording, event, IsAct, history, last_store_number, IsRising, Has, cut, matching_place}
 use Rattle.pmt_laws.proofs.Histories.{event-some, act-within}
 use Rattle.pmt_laws.proofs.CutLemmas.{has-above, place-low, place-kept, place-mono}
 use Rattle.pmt_laws.proofs.OverwrittenLemmas.{IsLastWriter, LastWriter, last_store_number-tells, last_store_number-from, last_store_number-is}

@@ -1,24 +1,12 @@
 -- The crash that violates an assertion, in the trace and in the assertion's slice.
 use Rattle.std.proofs.Common.{◌≡◌, ℕ, ◌<◌, ◌≤◌, ◌==◌, inl, inr, Bool, true, false, List, Option, Some, None, refl, sym, ap, subst, ◌∙◌, arith}
 use Rattle.std.specs.Prelude.{◌↔◌, if◌then◌else◌, MatchOption}
-use Rattle.std.specs.Option.{option_map}
 use Rattle.std.proofs.lemmas.Bool.{cases_lt}
-use Rattle.pmt_model.specs.Values.{Written, Span}
-use Rattle.pmt_model.specs.declared.event.Event.{Event}
-use Rattle.pmt_model.specs.declared.event.Op.{Op}
-use Rattle.pmt_model.specs.declared.event.Op.TheVariants.{Store, Clwb, ClflushOpt, Clflush, Sfence, Mfence, IsPersist, IsOrderedBefore}
-use Rattle.pmt_model.specs.Machine.{Stores}
-use Rattle.pmt_model.specs.Traces.{Recording, IsAct, act, event, count_at}
-use Rattle.pmt_model.specs.Fronts.{front_at}
-use Rattle.pmt_model.specs.Selections.{Has, cut, matching_place}
+use Rattle.pmt_explain.specs.Prelude.{Written, Span, Event, Op, Store, Clwb, ClflushOpt, Clflush, Sfence, Mfence, IsPersist, IsOrderedBefore, Stores, Recording, IsAct, act, event, count_at, front_at, Has, cut, matching_place, option_map, ByteStore, Failure, persisted_at, IsLost, IsLastIn, IsNoLater, IsFirstLost, IsPersistFailure, IsOrderedFailure, IsFailureOf, IsFailureAt}
 use Rattle.pmt_laws.proofs.Histories.{act-unique, act-within, count-mono}
 use Rattle.pmt_laws.proofs.OverwrittenLemmas.{last_store_number-is}
-use Rattle.pmt_reasons.specs.declared.failure.ByteStore.{ByteStore}
-use Rattle.pmt_reasons.specs.declared.failure.Failure.{Failure}
-use Rattle.pmt_reasons.specs.Failures.{persisted_at, IsLost, IsLastIn, IsNoLater, IsFirstLost, IsPersistFailure, IsOrderedFailure, IsFailureOf, IsFailureAt}
 use Rattle.pmt_reasons.proofs.CauseLemmas.{rank-above}
-use Rattle.pmt_safety.specs.Safety.{safe_store_at}
-use Rattle.pmt_safety.specs.Closed.{IsLastIn as IsLast}
+use Rattle.pmt_safety.specs.Safety.{safe_store_at, IsLastIn as IsLast}
 use Rattle.pmt_safety.proofs.SafetyLemmas.{front-below}
 use Rattle.pmt_slices.specs.Slices.{IsSubsequence, HasGrounds, TheAssertion, IsRangeOf, IsSlice, store_in, failure_in, SliceFails}
 use Rattle.pmt_slices.proofs.CuttingLemmas.{kept-event, kept-act, placed-later, later-origin, last-kept, last-from}

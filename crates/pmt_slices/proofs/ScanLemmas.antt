@@ -4,15 +4,10 @@ use Rattle.std.specs.Prelude.{slice_get, replicate}
 use Rattle.std.proofs.lemmas.Bool.{cases_eq}
 use Rattle.std.proofs.lemmas.List.{length-set, get_or-replicate, length-replicate}
 use Rattle.std.proofs.lemmas.Option.{none-some, same_Some, slice_get-get_or, get_or_from_slice_get, slice_get_within}
-use Rattle.pmt_model.specs.Values.{Span, Layout, Written, line_of}
-use Rattle.pmt_model.specs.declared.event.Op.{Op}
-use Rattle.pmt_model.specs.declared.event.Op.TheVariants.{Store}
-use Rattle.pmt_model.specs.Machine.{Act, Stores, Flushes, Clflushes, Fences}
-use Rattle.pmt_model.specs.Traces.{Recording, IsAct, act_of}
-use Rattle.pmt_model.specs.Assertions.{InSpan}
+use Rattle.pmt_laws.specs.Prelude.{Span, Layout, Written, line_of, Op, Store, Act, Stores, Flushes, Clflushes, Fences, Recording, IsAct, act_of, InSpan}
 use Rattle.pmt_laws.proofs.Histories.{act-unique}
 use Rattle.pmt_tables.specs.declared.spanned.Spanned.{Spanned}
-use Rattle.pmt_tables.specs.Spans.{IsSpanned, LinesAreMet}
+use Rattle.pmt_tables.specs.Slots.{IsSpanned, LinesAreMet}
 use Rattle.pmt_explain.specs.Following.{IsFirst, IsFenceAfter}
 use Rattle.pmt_explain.proofs.FirstLemmas.{first-here, first-over}
 use Rattle.pmt_slices.specs.declared.coming.Coming.{Coming}

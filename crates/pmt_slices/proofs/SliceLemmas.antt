@@ -1,17 +1,9 @@
 -- The slice of an assertion has the grounds of its verdict.
 use Rattle.std.proofs.Common.{◌≡◌, ℕ, ◌≤◌, inl, inr, List, length, Some, refl, sym, subst, ◌∙◌, arith, [], ◌∷◌}
-use Rattle.pmt_model.specs.Values.{Written, Span}
-use Rattle.pmt_model.specs.declared.event.Event.{Event}
-use Rattle.pmt_model.specs.declared.event.Op.TheVariants.{IsPersist, IsOrderedBefore}
-use Rattle.pmt_model.specs.Machine.{Stores, Flushes, Clflushes, Fences}
-use Rattle.pmt_model.specs.Traces.{Recording, IsAct, event, act}
-use Rattle.pmt_model.specs.Analyses.{IsVerdictOf, OfPersist, OfOrdered}
-use Rattle.pmt_model.specs.Selections.{Has, cut}
+use Rattle.pmt_laws.specs.Prelude.{Written, Span, Event, IsPersist, IsOrderedBefore, Stores, Flushes, Clflushes, Fences, Recording, IsAct, event, act, IsVerdictOf, OfPersist, OfOrdered, Has, cut, AllByRecursion}
 use Rattle.std.proofs.lemmas.Bool.{cases_lt}
-use Rattle.std.specs.List.{AllByRecursion}
 use Rattle.pmt_laws.proofs.Histories.{act-within, act-unique}
-use Rattle.pmt_safety.specs.Safety.{IsSafeFrom}
-use Rattle.pmt_safety.specs.Closed.{IsLastIn}
+use Rattle.pmt_safety.specs.Safety.{IsSafeFrom, IsLastIn}
 use Rattle.pmt_slices.specs.Slices.{IsSubsequence, HasCover, ByFlush as ByFlushAndFence, ByClflush as ByOneClflush, HasGrounds, Tells, Itself, Completes, Covers, FirstFlush, FirstFence, IsRangeOf, IsAssertion, Speaks, IsInSlice, TheAssertion, OfStore, IsSlice, SliceJudges, verdict_in}
 use Rattle.pmt_slices.proofs.CuttingLemmas.{kept-event}
 use Rattle.pmt_slices.proofs.VerdictLemmas.{last-by_now, persist_stays, ordered_stays}

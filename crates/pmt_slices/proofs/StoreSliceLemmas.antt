@@ -1,23 +1,13 @@
 -- The slice of a store that is never persisted, or late.
-use Rattle.std.proofs.Common.{◌≡◌, ◌≢◌, ℕ, zero, suc, ◌<◌, ◌≤◌, ◌⊎◌, inl, inr, Bool, true, false, List, length, Some, refl, sym, ap, subst, ◌∙◌, arith}
+use Rattle.std.proofs.Common.{◌≡◌, ◌≢◌, ℕ, zero, suc, ◌<◌, ◌≤◌, ◌⊎◌, inl, inr, Bool, true, false, List, length, refl, sym, ap, subst, ◌∙◌, arith}
 use Rattle.std.specs.Prelude.{◌↔◌}
-use Rattle.std.specs.List.{AllByRecursion}
 use Rattle.std.proofs.lemmas.Bool.{cases_eq, cases_lt, false≢true}
 use Rattle.std.proofs.lemmas.Option.{same_Some}
-use Rattle.pmt_model.specs.Values.{Layout, Written, line_of}
-use Rattle.pmt_model.specs.declared.event.Event.{Event}
-use Rattle.pmt_model.specs.declared.event.Op.{Op}
-use Rattle.pmt_model.specs.declared.event.Op.TheVariants.{Store, Clwb, ClflushOpt, Clflush, Sfence, Mfence, IsPersist, IsOrderedBefore}
-use Rattle.pmt_model.specs.Machine.{Act, Stores, Flushes, Clflushes, Fences, Asserts}
-use Rattle.pmt_model.specs.Traces.{Recording, IsAct, act_of, event}
-use Rattle.pmt_model.specs.Selections.{IsRising, Has, cut, matching_place}
-use Rattle.pmt_model.specs.Findings.{IsSafe}
+use Rattle.pmt_explain.specs.Prelude.{Layout, Written, Op, Store, Clwb, ClflushOpt, Clflush, Sfence, Mfence, IsPersist, IsOrderedBefore, Act, Stores, Flushes, Clflushes, Fences, Asserts, Recording, IsAct, act_of, IsRising, Has, cut, matching_place, IsSafe, AllByRecursion, Cause, IsCause}
 use Rattle.pmt_laws.proofs.Histories.{act-unique, act-within, history-step}
-use Rattle.pmt_reasons.specs.declared.cause.Cause.{Cause}
-use Rattle.pmt_safety.proofs.SafetyLemmas.{safe-up_to, safe-later as safe_store-later}
+use Rattle.pmt_safety.proofs.SafetyLemmas.{safe-later as safe_store-later}
 use Rattle.pmt_explain.specs.Following.{IsFirst, IsFenceAfter, past_of}
 use Rattle.pmt_slices.specs.declared.store_slicing.Fate.{Fate}
-use Rattle.pmt_reasons.specs.Causes.{IsCause}
 use Rattle.pmt_slices.specs.Slices.{IsSubsequence, Tells, cause_in, IsChosen, Chooses, IsOfStore, IsStoreBy, line_in, IsLateStore, IsLostOrLate, IsLost, IsLate, IsEarlyFence, IsInStoreSlice, OfStore, OwnFence, IsStoreSlice, StoreSliceTells, is_fence, IsFate, IsOfFate}
 use Rattle.pmt_slices.proofs.CuttingLemmas.{kept-act, act-origin, placed-later, later-origin}
 use Rattle.pmt_slices.proofs.TellLemmas.{completed-is_safe}

@@ -3,14 +3,8 @@ use Rattle.std.proofs.Common.{◌≡◌, ◌≢◌, ℕ, zero, suc, ◌<◌, ◌
 use Rattle.std.specs.Prelude.{◌↔◌, slice_get}
 use Rattle.std.proofs.lemmas.Bool.{cases_lt}
 use Rattle.std.proofs.lemmas.Option.{same_Some, slice_get_within}
-use Rattle.pmt_model.specs.Values.{Written}
-use Rattle.pmt_model.specs.declared.event.Event.{Event}
-use Rattle.pmt_model.specs.Machine.{Stores, Flushes, Clflushes, Fences}
-use Rattle.pmt_model.specs.Traces.{Recording, IsAct, act, event}
-use Rattle.pmt_model.specs.Selections.{IsRising, Has}
-use Rattle.pmt_model.specs.Findings.{IsFlushOf, ByFlush, ByClflush, IsSafe}
+use Rattle.pmt_explain.specs.Prelude.{Written, Event, Stores, Flushes, Clflushes, Fences, Recording, IsAct, act, event, IsRising, Has, IsFlushOf, ByFlush, ByClflush, IsSafe, IsFirstFenceAt}
 use Rattle.pmt_laws.proofs.Histories.{act-within, act-unique}
-use Rattle.pmt_reasons.specs.Causes.{IsFirstFenceAt}
 use Rattle.pmt_safety.specs.Safety.{IsSafeFrom}
 use Rattle.pmt_explain.specs.Following.{past_of}
 use Rattle.pmt_slices.specs.declared.store_story.StorePart.TheVariants as part
@@ -18,7 +12,7 @@ use Rattle.pmt_slices.specs.declared.store_story.StoreStory.{StoreStory}
 use Rattle.pmt_slices.specs.declared.store_story.Turn.{Turn}
 use Rattle.pmt_slices.specs.declared.store_story.Turn.TheVariants as turn
 use Rattle.pmt_slices.specs.Slices.{IsFirstFlush, IsFirstFlushBy, Tells, Covers, FirstFence, IsChosen, IsCompletion, OfFence, OfClflush, Chooses, IsOfStore, TheStore, TheFlush, TheCompletion, TheCover, TheFence, IsStoreBy, line_in, IsFate}
-use Rattle.pmt_slices.specs.StoreStories.{turn_of, IsTurn, IsOther, AreOthers, IsOfOthers, IsOfStory, IsNextFence, IsStorePart, IsStoreTold, IsInStoreStory, OfStore, OwnFence, OfOthers, IsStoreStory}
+use Rattle.pmt_slices.specs.Stories.{turn_of, IsTurn, IsOther, AreOthers, IsOfOthers, IsOfStory, IsNextFence, IsStorePart, IsStoreTold, IsInStoreStory, OfStore, OwnFence, OfOthers, IsStoreStory}
 use Rattle.pmt_slices.proofs.SliceLemmas.{tells-within, tells-some}
 use Rattle.pmt_slices.proofs.ComingLemmas.{tells-coming, coming-tells, told-safe, saved-at, flushed-at}
 use Rattle.pmt_slices.proofs.ChosenLemmas.{chosen-within}

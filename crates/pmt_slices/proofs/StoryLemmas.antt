@@ -1,22 +1,11 @@
 -- The story of a failed assertion.
 use Rattle.std.proofs.Common.{◌≡◌, ◌≢◌, ℕ, suc, ◌<◌, ◌≤◌, inl, inr, Bool, List, length, Option, None, Some, false, true≢false, refl, sym, ap, subst, ◌∙◌, arith}
 use Rattle.std.specs.Prelude.{◌↔◌, MatchOption, nat_eq}
-use Rattle.std.specs.Option.{option_eq, option_map}
 use Rattle.std.proofs.lemmas.Bool.{eq-eqb}
 use Rattle.std.proofs.lemmas.Option.{same_Some}
-use Rattle.pmt_model.specs.Values.{Written, Span}
-use Rattle.pmt_model.specs.declared.event.Event.{Event}
-use Rattle.pmt_model.specs.declared.event.Op.{Op}
-use Rattle.pmt_model.specs.declared.event.Op.TheVariants.{Store, Clwb, ClflushOpt, Clflush, Sfence, Mfence, IsPersist, IsOrderedBefore}
-use Rattle.pmt_model.specs.Machine.{Stores, Flushes, Fences}
-use Rattle.pmt_model.specs.Traces.{Recording, IsAct, event}
-use Rattle.pmt_model.specs.Selections.{IsRising, Has}
+use Rattle.pmt_explain.specs.Prelude.{Written, Span, Event, Op, Store, Clwb, ClflushOpt, Clflush, Sfence, Mfence, IsPersist, IsOrderedBefore, Stores, Flushes, Fences, Recording, IsAct, event, IsRising, Has, option_eq, option_map, ByteStore, Failure, IsFirstFenceAt, IsLastIn, IsFailureOf, IsFailureAt}
 use Rattle.pmt_laws.proofs.Histories.{act-unique, act-within}
 use Rattle.pmt_laws.proofs.OverwrittenLemmas.{last_store_number-is}
-use Rattle.pmt_reasons.specs.declared.failure.ByteStore.{ByteStore}
-use Rattle.pmt_reasons.specs.declared.failure.Failure.{Failure}
-use Rattle.pmt_reasons.specs.Causes.{IsFirstFenceAt}
-use Rattle.pmt_reasons.specs.Failures.{IsLastIn, IsFailureOf, IsFailureAt}
 use Rattle.pmt_safety.specs.Safety.{IsSafeFrom}
 use Rattle.pmt_slices.specs.declared.story.StoryPart.TheVariants.{Kept, Saves, Flush, Cover, Fence}
 use Rattle.pmt_slices.specs.declared.story.Story.{Story}

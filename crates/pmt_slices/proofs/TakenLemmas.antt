@@ -1,22 +1,14 @@
 -- Bytes that no store writes, going back event by event.
 use Rattle.std.proofs.Common.{◌≡◌, ◌≢◌, ℕ, suc, ◌+◌, ◌-◌, ◌/◌, ◌<◌, ◌≤◌, ◌⊎◌, inl, inr, ◌==◌, ◌&&◌, Bool, true, false, max, min, List, length, refl, sym, ap, subst, ◌∙◌, eqb-true, true≢false, arith}
 use Rattle.std.specs.Prelude.{◌||◌, nat_le, nat_lt, IsTrue}
-use Rattle.std.specs.List.{refill}
 use Rattle.std.proofs.lemmas.Bool.{cases_lt, and_parts, leb-true, ltb-true, le-leb, lt-ltb, and_from}
 use Rattle.std.proofs.lemmas.List.{append-nil, drop_all, take_all}
-use Rattle.pmt_model.specs.Values.{Layout, Written, Span, IsStore, line_of}
-use Rattle.pmt_model.specs.Formats.{IsFormat, is_line_size}
-use Rattle.pmt_model.specs.Machine.{Stores, writes}
-use Rattle.pmt_model.specs.declared.event.Op.{Op}
-use Rattle.pmt_model.specs.declared.event.Op.TheVariants.{Store, Clwb, ClflushOpt, Clflush, Sfence, Mfence, IsPersist, IsOrderedBefore}
-use Rattle.pmt_model.specs.Traces.{Recording, IsAct, act_of}
-use Rattle.pmt_model.specs.Assertions.{InSpan}
+use Rattle.pmt_laws.specs.Prelude.{Layout, Written, Span, IsStore, line_of, IsFormat, is_line_size, Stores, writes, Op, Store, Clwb, ClflushOpt, Clflush, Sfence, Mfence, IsPersist, IsOrderedBefore, Recording, IsAct, act_of, InSpan, refill}
 use Rattle.pmt_laws.proofs.Histories.{act-unique}
 use Rattle.pmt_laws.proofs.OverwrittenLemmas.{last_store_number-from, last_store_number-is}
-use Rattle.pmt_safety.specs.Closed.{IsLastIn}
+use Rattle.pmt_safety.specs.Safety.{IsLastIn}
 use Rattle.pmt_slices.specs.declared.unwritten.Unwritten.{Unwritten}
-use Rattle.pmt_slices.specs.Slices.{IsUnwritten, AreUnwritten}
-use Rattle.pmt_slices.specs.Taking.{is_free, TakesBytes, TakesStore}
+use Rattle.pmt_slices.specs.Slices.{IsUnwritten, AreUnwritten, is_free, TakesBytes, TakesStore}
 
 -- a line has a multiple of 8 bytes
 pub data IsSize (size : ℕ) : Type 0 where

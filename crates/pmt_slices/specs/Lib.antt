@@ -1,4 +1,2 @@
 pub mod Slices
-pub mod Taking
 pub mod Stories
-pub mod StoreStories

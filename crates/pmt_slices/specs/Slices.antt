@@ -1,31 +1,33 @@
 -- The slice of an assertion: the events by which it has its verdict, and its stores their causes.
-use Rattle.std.specs.Prelude.{◌≡◌, ℕ, ◌<◌, ◌≤◌, ◌⊎◌, ◌↔◌, List, length, Some, ◌≢◌, suc, ◌+◌, Bool, true, false, slice_get, slice_index_or, slice_index}
-use Rattle.std.specs.Option.{option_map}
-use Rattle.pmt_model.specs.Values.{Span, Written, line_of}
-use Rattle.pmt_model.specs.declared.event.Event.{Event}
-use Rattle.pmt_model.specs.declared.event.Op.{Op}
-use Rattle.pmt_model.specs.declared.event.Op.TheVariants.{Store, Clwb, ClflushOpt, Clflush, Sfence, Mfence, IsPersist, IsOrderedBefore}
-use Rattle.pmt_model.specs.declared.finding.Verdict.{Verdict}
-use Rattle.pmt_model.specs.Machine.{Flushes, Clflushes, Fences, Stores, writes}
-use Rattle.pmt_model.specs.Traces.{Recording, IsAct, event, history}
-use Rattle.pmt_model.specs.Selections.{IsRising, Has, cut, matching_place}
-use Rattle.pmt_model.specs.Assertions.{PersistPasses, OrderedPasses, InSpan}
-use Rattle.pmt_model.specs.Analyses.{IsVerdictOf}
-use Rattle.pmt_model.specs.Findings.{IsFlushOf, IsSafe}
-use Rattle.pmt_reasons.specs.declared.cause.Cause.{Cause}
-use Rattle.pmt_reasons.specs.declared.cause.Cause.TheVariants.{Later, Unflushed, Unfenced}
-use Rattle.pmt_reasons.specs.declared.failure.ByteStore.{ByteStore}
-use Rattle.pmt_reasons.specs.declared.failure.Failure.{Failure}
-use Rattle.pmt_reasons.specs.Failures.{IsFailureAt}
-use Rattle.pmt_reasons.specs.Causes.{IsFirstFenceAt, IsCause}
-use Rattle.pmt_safety.specs.Safety.{IsSafeFrom}
-use Rattle.pmt_safety.specs.Closed.{IsLastIn}
+use Rattle.std.specs.Prelude.{◌≡◌, ℕ, ◌+◌, ◌<◌, ◌≤◌, ◌⊎◌, Bool, true, false, List, length, slice_index_or, ◌↔◌, Some, ◌≢◌, suc, slice_get, slice_index}
+use Rattle.pmt_explain.specs.Prelude.{Span, line_of, Event, Op, Store, Clwb, ClflushOpt, Clflush, Sfence, Mfence, IsPersist, IsOrderedBefore, Verdict, Flushes, Clflushes, Fences, Stores, Recording, IsAct, event, history, IsRising, Has, cut, matching_place, PersistPasses, OrderedPasses, InSpan, IsVerdictOf, IsFlushOf, IsSafe, option_map, Cause, Later, Unflushed, Unfenced, ByteStore, Failure, IsFailureAt, IsFirstFenceAt, IsCause, Written, writes}
+use Rattle.pmt_safety.specs.Safety.{IsSafeFrom, IsLastIn}
 use Rattle.pmt_tables.specs.Flags.{is_kept_at}
 use Rattle.pmt_explain.specs.Following.{IsFirst, IsFenceAfter, IsCompletedAfter, past_of}
+use Rattle.pmt_slices.specs.declared.unwritten.Unwritten.{Unwritten}
 use Rattle.pmt_slices.specs.declared.coming.Coming.{Coming}
 use Rattle.pmt_slices.specs.declared.scan.Scan.{Scan}
-use Rattle.pmt_slices.specs.declared.unwritten.Unwritten.{Unwritten}
 use Rattle.pmt_slices.specs.declared.store_slicing.Fate.{Fate}
+
+abbrev pub is_free : List Bool → ℕ → Bool
+is_free bytes k = slice_index_or bytes k false
+
+-- The places from `from` up to the one before `to` are taken; whether one of them was free is told.
+pub record TakesBytes (from to : ℕ) (told : Bool) (old new : List Bool) : Type 0 where
+  pub size : length new ≡ length old
+  pub inside : (k : ℕ) → from ≤ k → k < to → is_free new k ≡ false
+  pub others : (k : ℕ) → (k < from) ⊎ (to ≤ k) → is_free new k ≡ is_free old k
+  pub some : told ≡ true → (k : ℕ) × (from ≤ k) × (k < to) × (is_free old k ≡ true)
+  pub none : told ≡ false → (k : ℕ) → from ≤ k → k < to → is_free old k ≡ false
+
+-- The bytes that the store writes are taken; whether one of them was free is told.
+pub record TakesStore (w : Written) (told : Bool) (old new : Unwritten) : Type 0 where
+  pub low : new.low ≡ old.low
+  pub size : length new.bytes.items ≡ length old.bytes.items
+  pub own : (k : ℕ) → k < length old.bytes.items → writes w (old.low + k) ≡ true → is_free new.bytes.items k ≡ false
+  pub others : (k : ℕ) → k < length old.bytes.items → writes w (old.low + k) ≡ false → is_free new.bytes.items k ≡ is_free old.bytes.items k
+  pub some : told ≡ true → (k : ℕ) × (k < length old.bytes.items) × (writes w (old.low + k) ≡ true) × (is_free old.bytes.items k ≡ true)
+  pub none : told ≡ false → (k : ℕ) → k < length old.bytes.items → writes w (old.low + k) ≡ true → is_free old.bytes.items k ≡ false
 
 -- Rising numbers of events. Any event may be left out, a store or an assertion too.
 pub record IsSubsequence (T : Recording) (K : List ℕ) : Type 0 where

@@ -1,8 +1,7 @@
 //! What comes after a store.
 
 ghost use Rattle.std.specs.Prelude.{◌≡◌, ℕ, suc, ◌≤◌, ◌<◌, length, IfOk};
-ghost use Rattle.pmt_model.specs.Values.{Span, line_of as line_in};
-ghost use Rattle.pmt_model.specs.Traces.{Recording, IsAct, act_of};
+ghost use Rattle.pmt_laws.specs.Prelude.{Span, line_of as line_in, Recording, IsAct, act_of};
 ghost use Rattle.pmt_slices.specs.Slices.{IsComing, IsScan};
 
 use crate::coming::Coming;

@@ -1,10 +1,7 @@
 //! What comes after a place, of all lines of a range, as events are met from an assertion back.
 
 ghost use Rattle.std.specs.Prelude.{◌≡◌, ◌≢◌, ℕ, suc, ◌+◌, ◌^◌, ◌<◌, ◌≤◌, ◌⊎◌, length, slice_get, Some, IfOk, MatchOption};
-ghost use Rattle.pmt_model.specs.Values.{Span, Written, line_of as line_in};
-ghost use Rattle.pmt_model.specs.Machine.{Stores, Flushes, Clflushes, Fences, Asserts};
-ghost use Rattle.pmt_model.specs.Traces.{Recording, IsAct};
-ghost use Rattle.pmt_model.specs.Assertions.{InSpan};
+ghost use Rattle.pmt_laws.specs.Prelude.{Span, Written, line_of as line_in, Stores, Flushes, Clflushes, Fences, Asserts, Recording, IsAct, InSpan};
 ghost use Rattle.pmt_slices.specs.Slices.{IsComing, IsScan};
 
 use crate::coming::Coming;

@@ -1,12 +1,7 @@
 //! The slice of an assertion, by one look back at each event before it.
 
 ghost use Rattle.std.specs.Prelude.{◌≡◌, ℕ, suc, ◌≤◌, Bool, List, Some, length, IfOk, OnOk, MatchOption};
-ghost use Rattle.pmt_model.specs.declared.event.Event.{Event};
-ghost use Rattle.pmt_model.specs.declared.event.Op.TheVariants.{IsPersist, IsOrderedBefore};
-ghost use Rattle.pmt_model.specs.Formats.{IsFormat};
-ghost use Rattle.pmt_model.specs.Values.{Span};
-ghost use Rattle.pmt_model.specs.Machine.{Stores};
-ghost use Rattle.pmt_model.specs.Traces.{Recording, IsAct, act_of, event as event_at};
+ghost use Rattle.pmt_laws.specs.Prelude.{Event, IsPersist, IsOrderedBefore, IsFormat, Span, Stores, Recording, IsAct, act_of, event as event_at};
 ghost use Rattle.pmt_slices.specs.Slices.{IsAssertion, IsSlice, HasChosen, IsGoneBack};
 
 use crate::choosing::{choose_store, only};

@@ -1,8 +1,7 @@
 //! The slice of a store that is never persisted, or late.
 
 ghost use Rattle.std.specs.Prelude.{◌≡◌, ℕ, ◌≤◌, length, IfOk, MatchOption};
-ghost use Rattle.pmt_model.specs.Values.{Written};
-ghost use Rattle.pmt_model.specs.Selections.{cut};
+ghost use Rattle.pmt_laws.specs.Prelude.{Written, cut};
 ghost use Rattle.pmt_explain.specs.Following.{IsFirst, IsFenceAfter, past_of};
 ghost use Rattle.pmt_slices.specs.Slices.{Chooses, IsFate, IsOfFate, is_fence as is_fence_op, IsLostOrLate, IsStoreBy, IsStoreSlice};
 

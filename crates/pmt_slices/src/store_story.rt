@@ -1,12 +1,9 @@
 //! The story of a store that is never persisted, or late: the few events that tell why it is not safe, and what makes it so.
 
 ghost use Rattle.std.specs.Prelude.{◌≡◌, ℕ, suc, ◌-◌, ◌<◌, ◌≤◌, ◌⊎◌, ◌↔◌, length, true, IfOk, MatchOption};
-ghost use Rattle.pmt_model.specs.Values.{Written, line_of as line_in};
-ghost use Rattle.pmt_model.specs.Traces.{Recording};
-ghost use Rattle.pmt_model.specs.Selections.{Has};
-ghost use Rattle.pmt_model.specs.Findings.{IsFlushOf, IsSafe};
+ghost use Rattle.pmt_laws.specs.Prelude.{Written, line_of as line_in, Recording, Has, IsFlushOf, IsSafe};
 ghost use Rattle.pmt_slices.specs.Slices.{IsFirstFlush, Chooses, IsFate, IsStoreBy};
-ghost use Rattle.pmt_slices.specs.StoreStories.{AreOthers, IsOfOthers, IsOfStory, IsOther, IsStoreAt, IsStoreStory, IsStoreTold, turn_of as turn_in};
+ghost use Rattle.pmt_slices.specs.Stories.{AreOthers, IsOfOthers, IsOfStory, IsOther, IsStoreAt, IsStoreStory, IsStoreTold, turn_of as turn_in};
 
 use crate::choosing::{choose, choose_store, nothing};
 use crate::store_slicing::{Fate, fate_of};

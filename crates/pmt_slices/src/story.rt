@@ -1,12 +1,7 @@
 //! The story of a failed assertion: the few events of its slice that tell of the store that its crash loses.
 
 ghost use Rattle.std.specs.Prelude.{◌≡◌, ℕ, ◌≤◌, ◌⊎◌, length, Some, IfOk, MatchOption};
-ghost use Rattle.std.specs.Option.{option_map};
-ghost use Rattle.pmt_model.specs.Values.{line_of as line_in};
-ghost use Rattle.pmt_model.specs.Machine.{Stores};
-ghost use Rattle.pmt_model.specs.Traces.{Recording, IsAct};
-ghost use Rattle.pmt_model.specs.Selections.{Has};
-ghost use Rattle.pmt_reasons.specs.declared.failure.Failure.{Failure};
+ghost use Rattle.pmt_explain.specs.Prelude.{line_of as line_in, Stores, Recording, IsAct, Has, option_map, Failure};
 ghost use Rattle.pmt_slices.specs.Slices.{Chooses, IsOfFailure};
 ghost use Rattle.pmt_slices.specs.Stories.{HasLost, IsStory, IsTold};
 

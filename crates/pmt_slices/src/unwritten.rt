@@ -1,12 +1,8 @@
 //! The bytes of a range that no store after a place writes.
 
 ghost use Rattle.std.specs.Prelude.{◌≡◌, ℕ, suc, ◌+◌, ◌<◌, ◌≤◌, true, false, length, slice_index_or, IfOk};
-ghost use Rattle.pmt_model.specs.Values.{Span, IsStore};
-ghost use Rattle.pmt_model.specs.Machine.{Stores, writes};
-ghost use Rattle.pmt_model.specs.Traces.{Recording, IsAct};
-ghost use Rattle.pmt_model.specs.Assertions.{InSpan};
-ghost use Rattle.pmt_slices.specs.Slices.{IsUnwritten, AreUnwritten};
-ghost use Rattle.pmt_slices.specs.Taking.{TakesBytes, TakesStore};
+ghost use Rattle.pmt_laws.specs.Prelude.{Span, IsStore, Stores, writes, Recording, IsAct, InSpan};
+ghost use Rattle.pmt_slices.specs.Slices.{IsUnwritten, AreUnwritten, TakesBytes, TakesStore};
 
 use pmt_model::{OutOfMemory, Range, WordStore};
 use std::alloc::Global;

@@ -3,8 +3,7 @@ use Rattle.std.proofs.Common.{◌≡◌, ℕ, ◌+◌, ◌<◌, List, ◌∷◌,
 use Rattle.std.proofs.lemmas.List.{drop_more}
 use Rattle.pmt_sources.specs.declared.found.SourceLine.{SourceLine}
 use Rattle.pmt_sources.specs.declared.place.SourcePlace.{SourcePlace}
-use Rattle.pmt_sources.specs.Places.{AreSame}
-use Rattle.pmt_sources.specs.Choosing.{IsFirstAt, NoLineAt}
+use Rattle.pmt_sources.specs.Places.{AreSame, IsFirstAt, NoLineAt}
 
 -- what is found in the rest is found in all
 abbrev pub IsLeft : SourcePlace → List SourceLine → List SourceLine → Type 0

@@ -2,7 +2,7 @@
 use Rattle.std.proofs.Common.{◌≡◌, ◌≢◌, ℕ, zero, suc, ◌+◌, ◌-◌, ◌<◌, ◌≤◌, ◌==◌, List, [], ◌∷◌, take, drop, length, get_or, refl, sym, ap, ◌∙◌, arith, None}
 use Rattle.std.proofs.lemmas.Bool.{cond-true, cond-false, eq-eqb, eqb-true, ne_eqb}
 use Rattle.memchr.specs.Find.{Passes, is_byte}
-use Rattle.pmt_sources.specs.Lines.{front_line, after_line, after_lines, first_line}
+use Rattle.pmt_sources.specs.Places.{front_line, after_line, after_lines, first_line}
 
 -- a text whose first LF is at place k
 pub cut-front : (text : List ℕ) (k : ℕ) → k < length text → get_or text k 0 ≡ 10 → ((i : ℕ) → i < k → get_or text i 0 ≢ 10) → take k text ≡ front_line text

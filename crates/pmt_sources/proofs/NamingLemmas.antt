@@ -3,11 +3,10 @@ use Rattle.std.proofs.Common.{◌≡◌, ℕ, ◌==◌, Bool, false, List, lengt
 use Rattle.std.specs.Prelude.{Decides, MatchOption}
 use Rattle.std.specs.List.{position_or_len}
 use Rattle.std.proofs.lemmas.List.{take_all}
-use Rattle.pmt_asked.specs.Framing.{frame_of}
+use Rattle.pmt_asked.specs.Choosing.{frame_of}
 use Rattle.pmt_asked.specs.declared.labels.Labels.{Labels}
 use Rattle.pmt_sources.specs.declared.place.SourcePlace.{SourcePlace}
-use Rattle.pmt_sources.specs.Places.{AreSame, IsPlace}
-use Rattle.pmt_sources.specs.Choosing.{Names, first_word}
+use Rattle.pmt_sources.specs.Places.{AreSame, IsPlace, Names, first_word}
 use Rattle.pmt_sources.proofs.PlaceLemmas.{read-as}
 
 -- a frame of one word

@@ -4,8 +4,7 @@ use Rattle.std.specs.Str.{NoCharPasses}
 use Rattle.std.specs.Str.Pattern.{RFindsChar, SplitsAroundMatch}
 use Rattle.std.proofs.lemmas.List.{take-append-drop}
 use Rattle.std.proofs.lemmas.Str.Pattern.{NoCharPasses-char, drop_at_char}
-use Rattle.pmt_text.specs.Fields.{number_in}
-use Rattle.pmt_text.specs.Reading.{capped}
+use Rattle.pmt_text.specs.Judging.{number_in, capped}
 use Rattle.pmt_sources.specs.Places.{IsPlace, NoColon}
 
 -- a list with a colon

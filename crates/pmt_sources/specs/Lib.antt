@@ -1,4 +1,1 @@
-pub mod Choosing
-pub mod Lines
 pub mod Places
-pub mod Visible

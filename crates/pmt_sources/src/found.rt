@@ -1,6 +1,6 @@
 //! Lines of source files that were read.
 ghost use Rattle.std.specs.Prelude.{MatchOption};
-ghost use Rattle.pmt_sources.specs.Choosing.{IsFirstAt, NoLineAt};
+ghost use Rattle.pmt_sources.specs.Places.{IsFirstAt, NoLineAt};
 
 use crate::place::{SourcePlace, is_same};
 

@@ -1,6 +1,6 @@
 //! The lines of a text.
 ghost use Rattle.std.specs.Prelude.{◌≡◌, option_map};
-ghost use Rattle.pmt_sources.specs.Lines.{after_line, front_line, line_at};
+ghost use Rattle.pmt_sources.specs.Places.{after_line, front_line, line_at};
 
 use memchr::memchr;
 

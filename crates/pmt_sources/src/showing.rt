@@ -1,7 +1,7 @@
 //! What a terminal shows of a line.
 ghost use Rattle.std.specs.Prelude.{◌≡◌, map, IfOk, string_bytes};
 ghost use Rattle.std.specs.Str.{chars, encode_utf8_all};
-ghost use Rattle.pmt_sources.specs.Visible.{is_hidden as hidden, sign};
+ghost use Rattle.pmt_sources.specs.Places.{is_hidden as hidden, sign};
 
 use pmt_model::OutOfMemory;
 use std::alloc::Global;

@@ -1,6 +1,6 @@
 //! Which line of source stands below a row.
 ghost use Rattle.std.specs.Prelude.{ℕ, List, ◌<◌, length, Decides, MatchOption};
-ghost use Rattle.pmt_sources.specs.Choosing.{IsUnder, Names};
+ghost use Rattle.pmt_sources.specs.Places.{IsUnder, Names};
 
 use crate::place::{SourcePlace, is_same, place_of};
 use pmt_asked::{Labels, frame_of};

@@ -2,29 +2,21 @@
 use Rattle.std.proofs.Common.{◌≡◌, ℕ, suc, ◌<◌, ◌≤◌, ◌⊎◌, inl, inr, ◌==◌, Bool, true, false, List, [], ◌∷◌, ◌++◌, refl, sym, ap, subst, ◌∙◌, eqb-true, arith}
 use Rattle.std.specs.Prelude.{◌↔◌, nat_lt, if◌then◌else◌}
 use Rattle.std.proofs.lemmas.Bool.{eq-eqb, ltb-true, both_ways, cases_lt}
-use Rattle.pmt_model.specs.Values.{Written}
-use Rattle.pmt_model.specs.Machine.{Stores, Clflushes, Asserts}
-use Rattle.pmt_model.specs.Traces.{Recording, IsAct, history}
-use Rattle.pmt_model.specs.Findings.{IsRedundantClflush, last_flush}
-use Rattle.pmt_model.specs.Keeping.{IsKept}
+use Rattle.pmt_laws.specs.Prelude.{Written, Stores, Clflushes, Asserts, Recording, IsAct, history, IsRedundantClflush, last_flush, IsKept}
 use Rattle.pmt_laws.proofs.Histories.{history-act}
 use Rattle.pmt_safety.specs.Safety.{last_line_store, last_line_store_at, safe_store, safe_store_at}
 use Rattle.pmt_safety.proofs.StoreLemmas.{last-is_store, safe-le_last}
 use Rattle.pmt_safety.proofs.RedundantLemmas.{redundant_clflush_by_stores}
 use Rattle.pmt_safety.proofs.KeptLemmas.{kept_clflush_by_stores}
-use Rattle.pmt_rows.specs.Chains.{IsChain, with_place}
-use Rattle.pmt_rows.specs.Linked.{AreLinked, AreLinkedAt, raised}
+use Rattle.pmt_rows.specs.Known.{IsChain, with_place, AreLinked, AreLinkedAt, raised, AreRows, IsKnownWith}
 use Rattle.pmt_rows.proofs.LinkedLemmas.{each_linked, raise_links}
 use Rattle.pmt_tables.specs.Slots.{IsSlotOf}
 use Rattle.pmt_rows.specs.declared.rows.Rows.{Rows}
-use Rattle.pmt_rows.specs.Known.{AreRows, IsKnownWith}
 use Rattle.pmt_rows.proofs.RowLemmas.{cleared-known}
 use Rattle.pmt_rows.specs.Waiting.{AreWaiting}
 use Rattle.pmt_rows.proofs.OpenLemmas.{waits-on}
 use Rattle.pmt_sweep.specs.declared.known.Known.{Known}
-use Rattle.pmt_sweep.specs.LineWords.{AreWordsOf}
-use Rattle.pmt_sweep.specs.First.{AreFlushedOf}
-use Rattle.pmt_sweep.specs.Known.{IsKnownAmong}
+use Rattle.pmt_sweep.specs.Known.{AreWordsOf, IsKnownAmong, AreFlushedOf}
 use Rattle.pmt_sweep.proofs.WordsLemmas.{words-other}
 use Rattle.pmt_sweep.proofs.FirstLemmas.{flushed-clflush, flushed-assertion}
 use Rattle.pmt_sweep.proofs.KnownLemmas.{length-before, stepped}

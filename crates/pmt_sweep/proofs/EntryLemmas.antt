@@ -2,19 +2,16 @@
 use Rattle.std.proofs.Common.{◌≡◌, ℕ, ◌<◌, ◌≤◌, inl, inr, Option, Some, None, unwrap_or, List, sym, ap, subst, refl, arith}
 use Rattle.std.specs.Prelude.{slice_index}
 use Rattle.std.proofs.lemmas.Bool.{cases_lt}
-use Rattle.pmt_model.specs.Values.{Written, line_of}
-use Rattle.pmt_model.specs.Machine.{Stores}
-use Rattle.pmt_model.specs.Traces.{Recording, IsTrace, IsAct, history}
-use Rattle.pmt_model.specs.Findings.{last_store_number}
+use Rattle.pmt_laws.specs.Prelude.{Written, line_of, Stores, Recording, IsTrace, IsAct, history, last_store_number}
 use Rattle.pmt_laws.proofs.Histories.{act-within}
 use Rattle.pmt_laws.proofs.OverwrittenLemmas.{last_store_number-is}
 use Rattle.pmt_safety.specs.Safety.{safe_store_at}
 use Rattle.pmt_safety.proofs.SafetyLemmas.{safe_from_is_passed}
 use Rattle.pmt_safety.proofs.StoreLemmas.{safe-is_store}
-use Rattle.pmt_rows.specs.Linked.{AreLinkedAt}
-use Rattle.pmt_tables.specs.Written.{last_number}
+use Rattle.pmt_rows.specs.Known.{AreLinkedAt}
+use Rattle.pmt_tables.specs.Lasts.{last_number}
 use Rattle.pmt_tables.proofs.LineLemmas.{writes-line}
-use Rattle.pmt_sweep.specs.Lines.{no_place}
+use Rattle.pmt_sweep.specs.Judged.{no_place}
 
 -- The last store to the byte at b.
 pub record IsLastAt (T : Recording) (n b : ℕ) : Type 0 where

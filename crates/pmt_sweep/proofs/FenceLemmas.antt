@@ -3,29 +3,22 @@ use Rattle.std.proofs.Common.{◌≡◌, ◌≢◌, ℕ, suc, ◌<◌, ◌≤◌
 use Rattle.std.specs.Prelude.{◌↔◌, All}
 use Rattle.std.proofs.lemmas.Bool.{eq-eqb, both_ways}
 use Rattle.std.proofs.lemmas.List.{get_or-map, length-map}
-use Rattle.pmt_model.specs.Machine.{Fences}
-use Rattle.pmt_model.specs.Traces.{Recording, IsAct, history}
-use Rattle.pmt_model.specs.Findings.{IsEmptyFence}
-use Rattle.pmt_model.specs.Keeping.{IsKept}
+use Rattle.pmt_laws.specs.Prelude.{Fences, Recording, IsAct, history, IsEmptyFence, IsKept}
 use Rattle.pmt_laws.proofs.Histories.{history-act}
 use Rattle.pmt_tables.specs.Flags.{MarksThese}
 use Rattle.pmt_safety.specs.Safety.{has_open_flush, last_line_store, safe_store, safe_store_at}
 use Rattle.pmt_safety.proofs.KeptLemmas.{empty_fence_by_flag}
-use Rattle.pmt_rows.specs.Linked.{AreLinked, AreLinkedAt}
+use Rattle.pmt_rows.specs.Known.{AreLinked, AreLinkedAt, IsKnownWith}
 use Rattle.pmt_rows.proofs.LinkedLemmas.{each_linked}
 use Rattle.pmt_rows.specs.declared.rows.Rows.{Rows}
-use Rattle.pmt_rows.specs.Known.{IsKnownWith}
 use Rattle.pmt_rows.specs.declared.open.OpenFlush.{OpenFlush}
-use Rattle.pmt_rows.specs.Waiting.{Waiting, AreWaiting, waiting, waits, list_at, raise_all}
+use Rattle.pmt_rows.specs.Waiting.{Waiting, AreWaiting, waiting, waits, list_at, raise_all, AreAtFence, IsAtFence, IsRaisable, raisers, some_raises, waits_all}
 use Rattle.pmt_rows.proofs.OpenLemmas.{waits-on}
 use Rattle.pmt_rows.proofs.WaitingLemmas.{fence-raises, open-tells}
 use Rattle.pmt_rows.proofs.KeepingLemmas.{Marks, HasCome, all-mark, each-at, waiting-marks, waiting-come, fence_kept_by_raise, fenced-known}
-use Rattle.pmt_rows.specs.Fencing.{AreAtFence, IsAtFence, IsRaisable, raisers, some_raises, waits_all}
 use Rattle.pmt_sweep.specs.declared.known.Known.{Known}
-use Rattle.pmt_sweep.specs.Flags.{FlagsKept}
-use Rattle.pmt_sweep.specs.LineWords.{AreWordsOf}
-use Rattle.pmt_sweep.specs.First.{AreFlushedOf}
-use Rattle.pmt_sweep.specs.Known.{IsKnownAmong}
+use Rattle.pmt_sweep.specs.Passing.{FlagsKept}
+use Rattle.pmt_sweep.specs.Known.{AreWordsOf, IsKnownAmong, AreFlushedOf}
 use Rattle.pmt_sweep.proofs.WordsLemmas.{words-other}
 use Rattle.pmt_sweep.proofs.FirstLemmas.{flushed-fence}
 use Rattle.pmt_sweep.proofs.KnownLemmas.{stepped}

@@ -1,12 +1,9 @@
 -- Lists of findings in report order.
 use Rattle.std.proofs.Common.{◌≡◌, ℕ, ◌+◌, ◌<◌, ◌⊎◌, inl, inr, Bool, true, false, List, [], ◌∷◌, ◌++◌, length, map, take, get_or, refl, sym, ap, ◌∙◌}
 use Rattle.std.proofs.lemmas.List.{append_assoc, map-append, take_more}
-use Rattle.pmt_model.specs.declared.finding.Finding.{Finding}
-use Rattle.pmt_model.specs.declared.finding.Finding.TheVariants.{Overwritten}
-use Rattle.pmt_model.specs.Selections.{IsRising, Has}
-use Rattle.pmt_model.specs.Analyses.{IsReportedBefore, InReportOrder, HasFinding}
+use Rattle.pmt_laws.specs.Prelude.{Finding, Overwritten, IsRising, Has, IsReportedBefore, InReportOrder, HasFinding}
 use Rattle.pmt_tables.specs.declared.words.Overwrite.{Overwrite}
-use Rattle.pmt_sweep.specs.Adding.{found_if, overwritten}
+use Rattle.pmt_sweep.specs.Found.{found_if, overwritten}
 
 -- what two lists together have
 pub has-append : (xs ys : List Finding) (f : Finding) → HasFinding (xs ++ ys) f → HasFinding xs f ⊎ HasFinding ys f

@@ -1,20 +1,16 @@
 -- The threads that have flushed a line, the first one and others: one more line, and what each act does.
 use Rattle.std.proofs.Common.{◌≡◌, ◌≢◌, ℕ, suc, ◌⊎◌, ◌<◌, ◌≤◌, inl, inr, ◌==◌, Bool, true, false, List, [], ◌∷◌, ◌++◌, length, get_or, Some, refl, sym, ap, ◌∙◌, arith}
 use Rattle.std.specs.Prelude.{◌&&◌, ◌||◌, not, if◌then◌else◌, slice_get, nat_eq, All}
-use Rattle.std.specs.List.{IsDistinct}
 use Rattle.std.proofs.lemmas.Bool.{eq-eqb, ne_eqb, cases_lt, cases_eq}
 use Rattle.std.proofs.lemmas.List.{length-append, get_or_past, get_or_default}
 use Rattle.std.proofs.lemmas.Option.{slice_get_within, same_Some}
-use Rattle.pmt_model.specs.Values.{Written}
-use Rattle.pmt_model.specs.Machine.{Act, Stores, Flushes, Clflushes, Fences, Asserts}
-use Rattle.pmt_model.specs.Findings.{last_flush}
+use Rattle.pmt_laws.specs.Prelude.{Written, Act, Stores, Flushes, Clflushes, Fences, Asserts, last_flush, IsDistinct}
 use Rattle.pmt_safety.specs.Safety.{last_line_store, has_flushed}
 use Rattle.pmt_tables.specs.Slots.{IsSlotOf}
 use Rattle.pmt_tables.proofs.ListLemmas.{one-slot, push-cases}
 use Rattle.pmt_sweep.specs.declared.first_flush.FirstFlush.{FirstFlush}
 use Rattle.pmt_sweep.specs.declared.flushed.SinceStore.{SinceStore}
-use Rattle.pmt_sweep.specs.Since.{none_since}
-use Rattle.pmt_sweep.specs.First.{none_first, tells_first, tells_at, HasFirst, AreFlushedOf}
+use Rattle.pmt_sweep.specs.Known.{none_since, none_first, tells_first, tells_at, HasFirst, AreFlushedOf}
 
 and-off : (b : Bool) → (b && false) ≡ false
 and-off true = refl
@@ -48,9 +44,6 @@ unflushed t l (Asserts ∷ h) none = unflushed t l h none
 -- nobody has flushed a line without a first flush
 none-tells : (last t : ℕ) (s : SinceStore) → tells_first last none_first s t ≡ false
 none-tells last t s = refl
-
-pub flushed-none : AreFlushedOf [] [] [] []
-flushed-none = record { few = omega arith; by_now = λ k d within. absurd (omega (arith, within)); each = λ l slot t at small. refl }
 
 -- one more line, which nobody has flushed
 pub flushed-new : (lines : List ℕ) (l : ℕ) (h : List Act) (flushed : List FirstFlush) (others : List SinceStore) → last_flush l h ≡ 0 → AreFlushedOf lines h flushed others → AreFlushedOf (lines ++ l ∷ []) h flushed others

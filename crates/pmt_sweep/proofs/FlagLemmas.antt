@@ -1,20 +1,16 @@
 -- The flags of the events that have come, event by event, and at the end of the trace.
 use Rattle.std.proofs.Common.{◌≡◌, ◌≢◌, ℕ, zero, suc, ◌<◌, ◌≤◌, ◌⊎◌, inl, inr, Bool, true, false, List, [], ◌∷◌, ◌++◌, length, get_or, map, refl, sym, ap, subst, ◌∙◌, arith, eqb-true}
 use Rattle.std.specs.Prelude.{◌↔◌, ◌==◌}
-use Rattle.std.specs.List.{AllByRecursion}
 use Rattle.std.proofs.lemmas.Bool.{cases_eq, cases_lt, eq-eqb, ne_eqb, false≢true, true≢false}
 use Rattle.std.proofs.lemmas.List.{get_or_push, get_or_append_left, get_or_past, map-append, length_push}
-use Rattle.pmt_model.specs.Machine.{Act, Stores, Flushes, Clflushes, Fences, Asserts, count}
-use Rattle.pmt_model.specs.Traces.{Recording, IsAct, history}
-use Rattle.pmt_model.specs.Selections.{always_stays, IsRising, Has}
+use Rattle.pmt_laws.specs.Prelude.{Act, Stores, Flushes, Clflushes, Fences, Asserts, count, Recording, IsAct, history, always_stays, IsRising, Has, AllByRecursion}
 use Rattle.pmt_model.specs.Keeping.{IsKept, IsKeep, Stays, ByFence, ByFlush, ByClflush}
 use Rattle.pmt_laws.specs.Passing.{Flushed, open_flushes}
 use Rattle.pmt_laws.proofs.Histories.{act-within, act-unique, history-act, length-history}
 use Rattle.pmt_laws.proofs.PassLemmas.{IsOpenOf, are_open}
 use Rattle.pmt_laws.proofs.DecidedLemmas.{open_is_dropped}
 use Rattle.pmt_tables.specs.Flags.{is_kept_at}
-use Rattle.pmt_sweep.specs.Flags.{FlagsKept}
-use Rattle.pmt_sweep.specs.PassFlags.{number_in, IsOpenAt, AreFlagged, AreFlagsTo, AreFlagsPast}
+use Rattle.pmt_sweep.specs.Passing.{FlagsKept, number_in, IsOpenAt, AreFlagged, AreFlagsTo, AreFlagsPast}
 
 -- what is kept is an event
 kept-there : (T : Recording) (i : ℕ) → IsKept T i → (1 ≤ i) × (i ≤ length T.events)

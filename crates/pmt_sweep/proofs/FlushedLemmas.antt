@@ -5,8 +5,7 @@ use Rattle.std.proofs.lemmas.Bool.{cases_order}
 use Rattle.std.proofs.lemmas.List.{length-append, get_or_past, get_or-append_right}
 use Rattle.pmt_rows.specs.Threads.{has_thread}
 use Rattle.pmt_sweep.specs.declared.flushed.SinceStore.{SinceStore}
-use Rattle.pmt_sweep.specs.Flushing.{IsAlike}
-use Rattle.pmt_sweep.specs.Since.{none_since, tells_flush}
+use Rattle.pmt_sweep.specs.Known.{IsAlike, none_since, tells_flush}
 
 and-off : (b : Bool) → (b && false) ≡ false
 and-off true = refl

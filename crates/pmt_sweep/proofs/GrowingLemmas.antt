@@ -4,40 +4,22 @@ use Rattle.std.specs.Prelude.{◌↔◌, IsTrue, slice_get, slice_index, unwrap_
 use Rattle.std.proofs.lemmas.Bool.{cases_lt}
 use Rattle.std.proofs.lemmas.List.{get_or-append-add, length-append}
 use Rattle.std.proofs.lemmas.Option.{slice_get-get_or}
-use Rattle.pmt_model.specs.declared.event.Event.{Event}
-use Rattle.pmt_model.specs.declared.finding.Finding.{Finding}
-use Rattle.pmt_model.specs.declared.finding.Finding.TheVariants.{Overwritten, NeverPersisted, RedundantFlush, FenceWithoutFlush}
-use Rattle.pmt_model.specs.declared.finding.Verdict.{Verdict}
-use Rattle.pmt_model.specs.Values.{Layout, Written}
-use Rattle.pmt_model.specs.Machine.{Stores, Flushes, Clflushes, Fences, Ends, count}
-use Rattle.pmt_model.specs.Pushing.{empty, with_events}
-use Rattle.pmt_model.specs.Traces.{Recording, IsTrace, IsAct, history, lines_of}
-use Rattle.pmt_model.specs.Assertions.{PersistPasses, OrderedPasses}
-use Rattle.pmt_model.specs.Findings.{IsFlushOf, ByFlush, ByClflush, IsSafe, IsCovered, last_store_number}
-use Rattle.pmt_model.specs.Analyses.{IsFinding, reported_at, IsVerdictOf, OfPersist, OfOrdered}
-use Rattle.pmt_model.specs.Keeping.{IsKept}
-use Rattle.pmt_model.specs.Selections.{Has}
+use Rattle.pmt_laws.specs.Prelude.{Event, Finding, Overwritten, NeverPersisted, RedundantFlush, FenceWithoutFlush, Verdict, Layout, Written, Stores, Flushes, Clflushes, Fences, Ends, count, empty, with_events, Recording, IsTrace, IsAct, history, lines_of, PersistPasses, OrderedPasses, IsFlushOf, ByFlush, ByClflush, IsSafe, IsCovered, last_store_number, IsFinding, reported_at, IsVerdictOf, OfPersist, OfOrdered, IsKept, Has}
 use Rattle.pmt_laws.specs.Passing.{open_flushes, IsOpenFlush}
 use Rattle.pmt_laws.proofs.DecidedLemmas.{IsSameTo, act-more, act-less, event-more, history-more, decided_stays, open-or_decided, open_is_dropped}
 use Rattle.pmt_laws.proofs.PassLemmas.{are_open}
 use Rattle.pmt_safety.specs.Safety.{last_line_store, safe_store, safe_store_at, IsSafeFrom}
 use Rattle.pmt_safety.proofs.SafetyLemmas.{safe_store_is_last}
-use Rattle.pmt_rows.specs.Linked.{AreLinkedAt}
-use Rattle.pmt_rows.specs.Known.{IsKnownWith}
+use Rattle.pmt_rows.specs.Known.{AreLinkedAt, IsKnownWith}
 use Rattle.pmt_rows.specs.Waiting.{AreWaiting}
 use Rattle.pmt_sweep.specs.declared.known.Known.{Known}
-use Rattle.pmt_sweep.specs.Known.{IsKnownAmong, IsKnownOf}
-use Rattle.pmt_sweep.specs.LineWords.{AreWordsOf, word_address}
-use Rattle.pmt_sweep.specs.First.{AreFlushedOf}
+use Rattle.pmt_sweep.specs.Known.{IsKnownAmong, IsKnownOf, AreWordsOf, word_address, AreFlushedOf}
 use Rattle.pmt_tables.specs.Lasts.{IsLeastAbove}
 use Rattle.pmt_sweep.specs.declared.oldest.OldestStore.{OldestStore}
-use Rattle.pmt_sweep.specs.Oldest.{AreOldestAmong, AreOldestOf, none_found}
-use Rattle.pmt_sweep.specs.Late.{is_known_late}
+use Rattle.pmt_sweep.specs.Judged.{AreOldestAmong, AreOldestOf, none_found}
+use Rattle.pmt_sweep.specs.Found.{is_known_late, AreKnownTo, AreVerdictsTo}
 use Rattle.pmt_sweep.specs.declared.sweeping.Sweeper.{Sweeper}
-use Rattle.pmt_sweep.specs.PassKnown.{AreKnownTo}
-use Rattle.pmt_sweep.specs.PassFlags.{number_in, IsOpenAt, AreFlagsTo}
-use Rattle.pmt_sweep.specs.VerdictsSoFar.{AreVerdictsTo}
-use Rattle.pmt_sweep.specs.Passing.{IsPassOf, HasSwept}
+use Rattle.pmt_sweep.specs.Passing.{number_in, IsOpenAt, AreFlagsTo, IsPassOf, HasSwept}
 
 -- ---- Two traces with the same events up to place n
 

@@ -1,19 +1,14 @@
 -- The verdicts, from bytes to stores and back.
 use Rattle.std.proofs.Common.{◌≡◌, ℕ, zero, suc, ◌<◌, ◌≤◌, inl, inr, List, Option, Some, None, unwrap_or, refl, sym, ap, subst, ◌∙◌, arith}
 use Rattle.std.specs.Prelude.{slice_index, ◌↔◌}
-use Rattle.pmt_model.specs.Values.{Written, Span, line_of}
-use Rattle.pmt_model.specs.Machine.{Stores}
-use Rattle.pmt_model.specs.Traces.{Recording, IsTrace, IsAct, history}
-use Rattle.pmt_model.specs.Findings.{last_store_number}
-use Rattle.pmt_model.specs.Assertions.{InSpan, PersistPasses, OrderedPasses}
+use Rattle.pmt_laws.specs.Prelude.{Written, Span, line_of, Stores, Recording, IsTrace, IsAct, history, last_store_number, InSpan, PersistPasses, OrderedPasses}
 use Rattle.pmt_laws.proofs.Histories.{act-unique, act-within}
 use Rattle.pmt_laws.proofs.OverwrittenLemmas.{last_store_number-is}
-use Rattle.pmt_safety.specs.Safety.{safe_store_at}
-use Rattle.pmt_safety.specs.Closed.{IsLastIn}
+use Rattle.pmt_safety.specs.Safety.{safe_store_at, IsLastIn}
 use Rattle.pmt_safety.proofs.SafetyLemmas.{safe-up_to, safe-later, safe_from_is_passed}
 use Rattle.pmt_safety.proofs.VerdictLemmas.{persist_by_stores, ordered_by_stores}
-use Rattle.pmt_rows.specs.Linked.{AreLinkedAt}
-use Rattle.pmt_tables.specs.Written.{last_number}
+use Rattle.pmt_rows.specs.Known.{AreLinkedAt}
+use Rattle.pmt_tables.specs.Lasts.{last_number}
 use Rattle.pmt_tables.proofs.LineLemmas.{writes-line}
 use Rattle.pmt_sweep.specs.Judged.{IsByteSafe, PersistByBytes, IsNoLaterThan, OrderedByLinks}
 

@@ -3,16 +3,12 @@ use Rattle.std.proofs.Common.{◌≡◌, ℕ, suc, ◌≤◌, ◌⊎◌, inl, in
 use Rattle.std.specs.Prelude.{◌↔◌, ◌<◌, nat_lt, if◌then◌else◌}
 use Rattle.std.proofs.lemmas.Bool.{ltb-true}
 use Rattle.std.proofs.lemmas.List.{append_assoc}
-use Rattle.pmt_model.specs.Machine.{Fences}
-use Rattle.pmt_model.specs.Traces.{Recording, IsAct, history}
-use Rattle.pmt_model.specs.Selections.{Has}
-use Rattle.pmt_model.specs.Keeping.{IsKept}
+use Rattle.pmt_laws.specs.Prelude.{Fences, Recording, IsAct, history, Has, IsKept}
 use Rattle.pmt_tables.specs.Flags.{is_kept_at, MarksThese}
 use Rattle.pmt_safety.specs.Safety.{safe_store_at}
-use Rattle.pmt_rows.specs.Waiting.{Waiting, waiting, raise_all}
-use Rattle.pmt_rows.specs.Fencing.{raisers}
+use Rattle.pmt_rows.specs.Waiting.{Waiting, waiting, raise_all, raisers}
 use Rattle.pmt_rows.proofs.KeepingLemmas.{kept_by_raise, open-numbers}
-use Rattle.pmt_sweep.specs.Flags.{FlagsKept, open_numbers}
+use Rattle.pmt_sweep.specs.Passing.{FlagsKept, open_numbers}
 
 -- the flushes that raise a line are those that are kept
 raisers-kept : (T : Recording) (t n k : ℕ) (older ws : List Waiting) → IsAct T (suc n) (Fences t) → waiting t (history T n) ≡ older ++ ws →

@@ -4,34 +4,26 @@ use Rattle.std.specs.Prelude.{◌↔◌, ◌||◌, if◌then◌else◌, slice_in
 use Rattle.std.proofs.lemmas.Bool.{eq-eqb}
 use Rattle.std.proofs.lemmas.List.{length-map, length-append}
 use Rattle.std.proofs.lemmas.Option.{get_or_from_slice_get, slice_get_within}
-use Rattle.pmt_model.specs.Values.{Written, Layout, line_of}
-use Rattle.pmt_model.specs.Machine.{Act, Stores, Flushes}
-use Rattle.pmt_model.specs.Traces.{Recording, IsAct, history, lines_of, has_line, with_line}
-use Rattle.pmt_model.specs.Findings.{IsOverwritten, IsRedundantFlush, last_flush}
-use Rattle.pmt_model.specs.Selections.{IsRising}
+use Rattle.pmt_laws.specs.Prelude.{Written, Layout, line_of, Act, Stores, Flushes, Recording, IsAct, history, lines_of, has_line, with_line, IsOverwritten, IsRedundantFlush, last_flush, IsRising}
 use Rattle.pmt_laws.proofs.Histories.{act-within, history-act, length-history}
 use Rattle.pmt_safety.specs.Safety.{has_flushed, last_line_store, last_line_store_at, safe_store, safe_store_at}
 use Rattle.pmt_safety.proofs.RedundantLemmas.{redundant_flush_by_stores}
-use Rattle.pmt_rows.specs.Linked.{AreLinked, AreLinkedAt, raised}
+use Rattle.pmt_rows.specs.Known.{AreLinked, AreLinkedAt, raised, row_after, AreRows, IsKnownWith}
 use Rattle.pmt_rows.proofs.LinkedLemmas.{each_linked}
 use Rattle.pmt_tables.specs.Slots.{IsSlotOf}
 use Rattle.pmt_tables.specs.declared.words.Overwrite.{Overwrite}
-use Rattle.pmt_tables.specs.Lasts.{last_at, AddsOverwritten, IsLastTo}
-use Rattle.pmt_tables.specs.Written.{IsWordAt, WritesIn}
+use Rattle.pmt_tables.specs.Lasts.{last_at, AddsOverwritten, IsLastTo, IsWordAt, WritesIn}
 use Rattle.pmt_tables.proofs.WrittenLemmas.{overwritten_by_word}
 use Rattle.pmt_rows.specs.declared.rows.Row.{Row}
 use Rattle.pmt_rows.specs.declared.rows.Rows.{Rows}
-use Rattle.pmt_rows.specs.Known.{row_after, AreRows, IsKnownWith}
 use Rattle.pmt_rows.proofs.RowLemmas.{stored-known, flushed-known}
 use Rattle.pmt_rows.specs.Waiting.{AreWaiting, list_at}
 use Rattle.pmt_rows.specs.declared.open.OpenFlush.{OpenFlush}
 use Rattle.pmt_rows.proofs.OpenLemmas.{waits-on}
 use Rattle.pmt_sweep.specs.declared.known.Known.{Known}
-use Rattle.pmt_sweep.specs.LineWords.{word_address, AreWordsOf}
-use Rattle.pmt_sweep.specs.First.{AreFlushedOf, HasFirst, tells_at}
+use Rattle.pmt_sweep.specs.Known.{word_address, AreWordsOf, IsActAt, IsKnownAmong, IsKnownOf, IsStoreAt, IsStoreNext, AddsOverwrittenBy, AreFlushedOf, HasFirst, tells_at}
 use Rattle.pmt_sweep.specs.declared.first_flush.FirstFlush.{FirstFlush}
 use Rattle.pmt_sweep.specs.declared.flushed.SinceStore.{SinceStore}
-use Rattle.pmt_sweep.specs.Known.{IsActAt, IsKnownAmong, IsKnownOf, IsStoreAt, IsStoreNext, AddsOverwrittenBy}
 use Rattle.pmt_sweep.specs.declared.line_words.WordBytes.{WordBytes}
 use Rattle.pmt_sweep.proofs.WordsLemmas.{AreAdded, words-new, words-other}
 use Rattle.pmt_sweep.proofs.FirstLemmas.{flushed-new, flushed-store, flushed-flush}
@@ -91,13 +83,6 @@ stepped P T n a is p = subst P (sym (history-act T n a is)) p
 
 pub length-before : (T : Recording) (n : ℕ) (a : Act) → IsAct T (suc n) a → length (history T n) ≡ n
 length-before T n a is = let within = act-within T (suc n) a is in length-history T n (omega (arith, within.1))
-
--- the number of the next event is that of the entries, and small
-pub next-number : (T : Recording) (n : ℕ) (lines : List ℕ) (k : Known) (a : Act) → IsKnownAmong T n lines k → IsAct T (suc n) a → length k.links ≡ suc n
-next-number T n lines k a is next = is.entries.many
-
-pub next-small : (T : Recording) (n : ℕ) (lines : List ℕ) (k : Known) (a : Act) → IsKnownAmong T n lines k → IsAct T (suc n) a → length k.links ≤ 1000000
-next-small T n lines k a is next = let within = act-within T (suc n) a next in omega (arith, is.entries.many, within.1, is.trace.few)
 
 rising-from : (low high : ℕ) (found : List ℕ) → low ≤ high → IsRising high found → IsRising low found
 rising-from low high [] le rising = rising

@@ -2,14 +2,11 @@
 use Rattle.std.proofs.Common.{◌≡◌, ◌≢◌, ℕ, ◌+◌, ◌<◌, ◌≤◌, ◌==◌, ◌⊎◌, inl, inr, Bool, true, false, List, Option, Some, None, refl, sym, ap, subst, ◌∙◌, arith}
 use Rattle.std.specs.Prelude.{◌&&◌, ◌||◌, not, if◌then◌else◌, nat_le}
 use Rattle.std.proofs.lemmas.Bool.{and_parts, cases_lt, cases_eq, eq-eqb, eqb-true, ne_eqb}
-use Rattle.pmt_model.specs.Values.{Span, line_of}
-use Rattle.pmt_model.specs.Assertions.{InSpan}
-use Rattle.pmt_model.specs.Traces.{Recording}
+use Rattle.pmt_laws.specs.Prelude.{Span, line_of, InSpan, Recording}
 use Rattle.pmt_tables.specs.declared.spanned.Spanned.{Spanned}
-use Rattle.pmt_tables.specs.Spans.{IsSpanned}
+use Rattle.pmt_tables.specs.Slots.{IsSpanned}
 use Rattle.pmt_sweep.specs.declared.latest.Latest.{Latest}
-use Rattle.pmt_sweep.specs.Latest.{IsLatest, Tells}
-use Rattle.pmt_sweep.specs.Lines.{AreSafeFrom, AreSafeFromBelow, IsLineSafeFrom, IsLineTold, no_place}
+use Rattle.pmt_sweep.specs.Judged.{IsLatest, Tells, AreSafeFrom, AreSafeFromBelow, IsLineSafeFrom, IsLineTold, no_place}
 use Rattle.pmt_sweep.proofs.LineLemmas.{IsLineBare, bare-above, met}
 
 module _ (T : Recording) (n : ℕ) (entries : List ℕ) (A : Span) where

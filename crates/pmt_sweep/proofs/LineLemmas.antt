@@ -3,27 +3,21 @@ use Rattle.std.proofs.Common.{◌≡◌, ℕ, ◌+◌, ◌-◌, ◌*◌, ◌%◌
 use Rattle.std.specs.Prelude.{◌↔◌, ◌&&◌, nat_le}
 use Rattle.std.proofs.lemmas.Bool.{cases_lt, le-leb, and_from}
 use Rattle.std.proofs.lemmas.Nat.{div-add-mod', div-mul-add, mod_below}
-use Rattle.pmt_model.specs.Values.{Span, line_of}
-use Rattle.pmt_model.specs.Traces.{Recording, IsTrace, history, lines_of, has_line}
-use Rattle.pmt_model.specs.Assertions.{InSpan}
+use Rattle.pmt_laws.specs.Prelude.{Span, line_of, Recording, IsTrace, history, lines_of, has_line, InSpan}
 use Rattle.pmt_safety.specs.Safety.{last_line_store_at, safe_store_at}
-use Rattle.pmt_tables.specs.Slots.{IsSlotOf}
+use Rattle.pmt_tables.specs.Slots.{IsSlotOf, AreBytesOf, IsSpanned}
 use Rattle.pmt_tables.proofs.ListLemmas.{list_any-has_line, list_any-slot}
 use Rattle.pmt_rows.specs.declared.rows.Row.{Row}
-use Rattle.pmt_tables.specs.Lasts.{IsLastTo, IsLeastAbove, IsNewest}
-use Rattle.pmt_tables.specs.Written.{last_number}
+use Rattle.pmt_tables.specs.Lasts.{IsLastTo, IsLeastAbove, IsNewest, last_number}
 use Rattle.pmt_tables.specs.declared.spanned.LineBytes.{LineBytes}
 use Rattle.pmt_tables.specs.declared.spanned.Spanned.{Spanned}
-use Rattle.pmt_tables.specs.Spans.{AreBytesOf, IsSpanned}
 use Rattle.pmt_tables.proofs.SpanLemmas.{lines-met}
 use Rattle.pmt_sweep.specs.declared.known.Known.{Known}
-use Rattle.pmt_sweep.specs.Known.{IsKnownOf}
-use Rattle.pmt_sweep.specs.Reading.{last_in_line}
+use Rattle.pmt_sweep.specs.Known.{IsKnownOf, last_in_line, IsLineOf}
 use Rattle.pmt_sweep.proofs.WordsLemmas.{byte-le_last}
 use Rattle.pmt_sweep.proofs.ReadingLemmas.{some-bytes}
 use Rattle.pmt_sweep.specs.declared.placed.Placed.{Placed}
-use Rattle.pmt_sweep.specs.Lines.{EachIn, IsAtLine, IsLineBefore, IsLineSafe}
-use Rattle.pmt_sweep.specs.Placed.{IsLineOf}
+use Rattle.pmt_sweep.specs.Judged.{EachIn, IsAtLine, IsLineBefore, IsLineSafe}
 
 -- ---- Lines without stores to the range
 

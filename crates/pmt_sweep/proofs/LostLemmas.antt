@@ -1,24 +1,16 @@
 -- What entries tell at the end: which stores are never persisted, and from which place on each other one is safe.
 use Rattle.std.proofs.Common.{◌≡◌, ℕ, suc, ◌<◌, ◌≤◌, ◌⊎◌, inl, inr, ◌==◌, Bool, true, false, List, [], ◌∷◌, ◌++◌, length, Option, map, reverse, Some, None, refl, sym, ap, subst, ◌∙◌, arith}
 use Rattle.std.specs.Prelude.{◌↔◌, IsTrue, nat_lt, if◌then◌else◌, slice_index}
-use Rattle.std.specs.List.{refill}
 use Rattle.std.proofs.lemmas.Bool.{cases_lt, ltb-true, lt-ltb, ne_eqb}
 use Rattle.std.proofs.lemmas.List.{append-nil, drop_all, take_all}
-use Rattle.pmt_model.specs.declared.finding.Finding.{Finding}
-use Rattle.pmt_model.specs.declared.finding.Finding.TheVariants.{Overwritten, NeverPersisted, RedundantFlush, FenceWithoutFlush}
-use Rattle.pmt_model.specs.Values.{Written}
-use Rattle.pmt_model.specs.Machine.{Act, State, Ends, Stores, Flushes, Clflushes, Fences, Asserts}
-use Rattle.pmt_model.specs.Traces.{Recording, IsAct, act, event_limit, history, count_at}
-use Rattle.pmt_model.specs.Findings.{IsFlushOf, ByFlush, ByClflush, IsFlushedAfter, IsSafe, last_flush}
-use Rattle.pmt_model.specs.Analyses.{reported_at, IsReportedBefore, InReportOrder, HasFinding, IsFinding}
+use Rattle.pmt_laws.specs.Prelude.{Finding, Overwritten, NeverPersisted, RedundantFlush, FenceWithoutFlush, Written, Act, State, Ends, Stores, Flushes, Clflushes, Fences, Asserts, Recording, IsAct, act, event_limit, history, count_at, IsFlushOf, ByFlush, ByClflush, IsFlushedAfter, IsSafe, last_flush, reported_at, IsReportedBefore, InReportOrder, HasFinding, IsFinding, refill}
 use Rattle.pmt_laws.proofs.Histories.{act-unique, act-within, event-some}
 use Rattle.pmt_laws.proofs.OverwrittenLemmas.{IsLastFlush, last_flush-tells}
 use Rattle.pmt_safety.specs.Safety.{safe_store_at}
 use Rattle.pmt_safety.proofs.RedundantLemmas.{never_persisted_by_stores}
 use Rattle.pmt_safety.proofs.SafetyLemmas.{safe-up_to, safe-later}
-use Rattle.pmt_sweep.specs.Late.{is_known_late, AreKnownLate}
-use Rattle.pmt_sweep.specs.SafePlaces.{tells_lost, place_in, IsSafePlace, AreSafePlaces}
-use Rattle.pmt_sweep.specs.Entries.{IsLost, AreLostAfter, AreMarked, lost_at}
+use Rattle.pmt_sweep.specs.Found.{is_known_late, AreKnownLate}
+use Rattle.pmt_sweep.specs.Entries.{tells_lost, place_in, IsSafePlace, AreSafePlaces, IsLost, AreLostAfter, AreMarked, lost_at}
 use Rattle.pmt_sweep.proofs.MarkedLemmas.{same-line}
 
 -- ---- Entries

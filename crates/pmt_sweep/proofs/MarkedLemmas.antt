@@ -4,9 +4,7 @@ use Rattle.std.specs.Prelude.{slice_get, slice_index}
 use Rattle.std.proofs.lemmas.Bool.{cases_lt, false≢true}
 use Rattle.std.proofs.lemmas.List.{length-map}
 use Rattle.std.proofs.lemmas.Option.{slice_get_within}
-use Rattle.pmt_model.specs.Values.{Written}
-use Rattle.pmt_model.specs.Machine.{Act, Stores, Flushes, Clflushes, Fences, Asserts}
-use Rattle.pmt_model.specs.Traces.{Recording, IsAct, act, has_line, history, lines_of}
+use Rattle.pmt_laws.specs.Prelude.{Written, Act, Stores, Flushes, Clflushes, Fences, Asserts, Recording, IsAct, act, has_line, history, lines_of}
 use Rattle.pmt_laws.proofs.Histories.{act-unique, act-within, event-some}
 use Rattle.pmt_safety.specs.Safety.{last_line_store_at, safe_store_at, IsSafeFrom}
 use Rattle.pmt_safety.proofs.SafetyLemmas.{safe-up_to, safe_from_is_passed}
@@ -17,9 +15,7 @@ use Rattle.pmt_tables.proofs.ListLemmas.{one-slot}
 use Rattle.pmt_rows.specs.declared.rows.Row.{Row}
 use Rattle.pmt_rows.specs.declared.rows.Rows.{Rows}
 use Rattle.pmt_rows.specs.Known.{row_after}
-use Rattle.pmt_sweep.specs.Ends.{AreEndsOf}
-use Rattle.pmt_sweep.specs.Entries.{IsLost, lost_entry, AreLostAfter, AreMarked}
-use Rattle.pmt_sweep.specs.Marking.{IsLineEnd, IsLineLostAfter, IsLineMarked}
+use Rattle.pmt_sweep.specs.Entries.{AreEndsOf, IsLost, lost_entry, AreLostAfter, AreMarked, IsLineEnd, IsLineLostAfter, IsLineMarked}
 
 -- the lines of a trace
 abbrev pub all_lines : Recording → List ℕ

@@ -3,15 +3,13 @@ use Rattle.std.proofs.Common.{◌≡◌, ℕ, zero, suc, ◌<◌, ◌≤◌, inl
 use Rattle.std.specs.Prelude.{slice_index, slice_set}
 use Rattle.std.proofs.lemmas.Bool.{cases_eq, cases_lt}
 use Rattle.std.proofs.lemmas.List.{get_or-set_same, get_or-set_other, length-set}
-use Rattle.pmt_model.specs.Machine.{Stores}
-use Rattle.pmt_model.specs.Traces.{Recording}
+use Rattle.pmt_laws.specs.Prelude.{Stores, Recording}
 use Rattle.pmt_laws.proofs.Histories.{act-within}
 use Rattle.pmt_safety.specs.Safety.{last_line_store_at, safe_store_at}
 use Rattle.pmt_safety.proofs.StoreLemmas.{IsLineStore, last-is_store, last-greatest}
 use Rattle.pmt_rows.proofs.LinkedLemmas.{last-by_now}
 use Rattle.pmt_rows.specs.declared.rows.Row.{Row}
-use Rattle.pmt_sweep.specs.Entries.{IsLost, entry_of_lost, lost_entry}
-use Rattle.pmt_sweep.specs.Marking.{IsLineEnd, IsLineLostAfter, IsLineMarked}
+use Rattle.pmt_sweep.specs.Entries.{IsLost, entry_of_lost, lost_entry, IsLineEnd, IsLineLostAfter, IsLineMarked}
 
 -- The walk has come down to this store to line l, or to 0: the entries above it tell whether a flush follows.
 pub record IsWalking (T : Recording) (l : ℕ) (old new : List ℕ) (number : ℕ) : Type 0 where

@@ -4,22 +4,18 @@ use Rattle.std.specs.Prelude.{if◌then◌else◌, unwrap_or}
 use Rattle.std.proofs.lemmas.List.{length-append, get_or_past}
 use Rattle.std.proofs.lemmas.Nat.{div-mul-add}
 use Rattle.std.proofs.lemmas.Option.{slice_get_within, same_Some}
-use Rattle.pmt_model.specs.Values.{line_of}
-use Rattle.pmt_model.specs.Machine.{Act, Stores, Flushes, Clflushes, Fences, Asserts}
-use Rattle.pmt_model.specs.Traces.{Recording, IsTrace, IsAct, history, lines_of, has_line, with_line}
-use Rattle.pmt_model.specs.Findings.{last_store_number}
+use Rattle.pmt_laws.specs.Prelude.{line_of, Act, Stores, Flushes, Clflushes, Fences, Asserts, Recording, IsTrace, IsAct, history, lines_of, has_line, with_line, last_store_number}
 use Rattle.pmt_laws.proofs.Histories.{history-act, history-step}
 use Rattle.pmt_laws.proofs.OverwrittenLemmas.{LastWriter, last_store_number-from, last_store_number-is, last_store_number-tells}
 use Rattle.pmt_safety.specs.Safety.{last_line_store_at}
 use Rattle.pmt_safety.proofs.StoreLemmas.{last-greatest, last-is_store}
-use Rattle.pmt_tables.specs.Lasts.{IsLeastAbove, IsLastTo}
+use Rattle.pmt_tables.specs.Lasts.{IsLeastAbove, IsLastTo, last_number}
 use Rattle.pmt_tables.specs.Slots.{IsSlotOf}
-use Rattle.pmt_tables.specs.Written.{last_number}
 use Rattle.pmt_tables.proofs.LineLemmas.{writes-line}
 use Rattle.pmt_tables.proofs.ListLemmas.{push-cases}
-use Rattle.pmt_sweep.specs.Reading.{last_in_line}
+use Rattle.pmt_sweep.specs.Known.{last_in_line}
 use Rattle.pmt_sweep.specs.declared.oldest.OldestStore.{OldestStore}
-use Rattle.pmt_sweep.specs.Oldest.{AreOldestAmong, AreOldestOf, IsKeptAt, IsOldestOf, none_found}
+use Rattle.pmt_sweep.specs.Judged.{AreOldestAmong, AreOldestOf, IsKeptAt, IsOldestOf, none_found}
 
 -- ---- The last stores to the bytes of a line stay until the next store to it
 

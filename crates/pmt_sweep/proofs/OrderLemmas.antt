@@ -2,18 +2,13 @@
 use Rattle.std.proofs.Common.{◌≡◌, ◌≢◌, ℕ, ◌<◌, ◌≤◌, ◌⊎◌, inl, inr, List, Option, Some, None, refl, sym, ap, subst, ◌∙◌, arith}
 use Rattle.std.specs.Prelude.{◌↔◌, slice_index}
 use Rattle.std.proofs.lemmas.Bool.{cases_lt, cases_eq}
-use Rattle.pmt_model.specs.Values.{Span, line_of}
-use Rattle.pmt_model.specs.Machine.{Stores}
-use Rattle.pmt_model.specs.Traces.{Recording, IsTrace, IsAct, history}
-use Rattle.pmt_model.specs.Assertions.{InSpan, PersistPasses, OrderedPasses}
+use Rattle.pmt_laws.specs.Prelude.{Span, line_of, Stores, Recording, IsTrace, IsAct, history, InSpan, PersistPasses, OrderedPasses}
 use Rattle.pmt_safety.specs.Safety.{safe_store_at}
-use Rattle.pmt_rows.specs.Linked.{AreLinkedAt}
-use Rattle.pmt_tables.specs.Written.{last_number}
-use Rattle.pmt_sweep.specs.Judged.{IsByteSafe, IsNoLaterThan}
+use Rattle.pmt_rows.specs.Known.{AreLinkedAt}
+use Rattle.pmt_tables.specs.Lasts.{last_number}
+use Rattle.pmt_sweep.specs.Judged.{IsByteSafe, IsNoLaterThan, IsLatestBut, AreSafeFrom, EachIn, IsLineBefore, IsLineOrdered, IsLineSafe, IsLineSafeFrom, IsLineTold, IsPendingApart, no_place}
 use Rattle.pmt_sweep.proofs.JudgedLemmas.{persist_by_bytes, ordered_by_links}
 use Rattle.pmt_sweep.specs.declared.latest.Latest.{Latest}
-use Rattle.pmt_sweep.specs.Latest.{IsLatestBut}
-use Rattle.pmt_sweep.specs.Lines.{AreSafeFrom, EachIn, IsLineBefore, IsLineOrdered, IsLineSafe, IsLineSafeFrom, IsLineTold, IsPendingApart, no_place}
 use Rattle.pmt_sweep.proofs.LineLemmas.{IsLineBare}
 use Rattle.pmt_sweep.proofs.EntryLemmas.{last-at, entry-after, entries-rise}
 

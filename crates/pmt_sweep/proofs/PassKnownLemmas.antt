@@ -2,20 +2,11 @@
 use Rattle.std.proofs.Common.{◌≡◌, ◌≢◌, ℕ, suc, ◌≤◌, ◌⊎◌, inl, inr, Bool, true, false, List, [], ◌++◌, refl, sym, ap, subst, ◌∙◌, arith}
 use Rattle.std.specs.Prelude.{not, ◌↔◌}
 use Rattle.std.proofs.lemmas.Bool.{false≢true, true≢false}
-use Rattle.pmt_model.specs.declared.finding.Finding.{Finding}
-use Rattle.pmt_model.specs.declared.finding.Finding.TheVariants.{Overwritten, NeverPersisted, RedundantFlush, FenceWithoutFlush}
-use Rattle.pmt_model.specs.Values.{Written}
-use Rattle.pmt_model.specs.Machine.{Act, Stores, Flushes, Clflushes, Fences, Asserts}
-use Rattle.pmt_model.specs.Traces.{Recording, IsAct}
-use Rattle.pmt_model.specs.Findings.{IsEmptyFence, IsOverwritten, IsRedundantFlush, IsRedundantClflush}
-use Rattle.pmt_model.specs.Selections.{IsRising, Has}
-use Rattle.pmt_model.specs.Analyses.{reported_at, HasFinding, IsFinding}
+use Rattle.pmt_laws.specs.Prelude.{Finding, Overwritten, NeverPersisted, RedundantFlush, FenceWithoutFlush, Written, Act, Stores, Flushes, Clflushes, Fences, Asserts, Recording, IsAct, IsEmptyFence, IsOverwritten, IsRedundantFlush, IsRedundantClflush, IsRising, Has, reported_at, HasFinding, IsFinding}
 use Rattle.pmt_laws.proofs.Histories.{act-unique, act-within}
 use Rattle.pmt_tables.specs.declared.words.Overwrite.{Overwrite}
 use Rattle.pmt_sweep.specs.Known.{AddsOverwrittenBy}
-use Rattle.pmt_sweep.specs.Late.{is_known_late}
-use Rattle.pmt_sweep.specs.Adding.{found_if, overwritten}
-use Rattle.pmt_sweep.specs.PassKnown.{AreKnownAt, AreKnownTo, AddsKnown}
+use Rattle.pmt_sweep.specs.Found.{is_known_late, found_if, overwritten, AreKnownAt, AreKnownTo, AddsKnown}
 use Rattle.pmt_sweep.proofs.JoiningLemmas.{finding-at}
 use Rattle.pmt_sweep.proofs.FindingLists.{has-append, has-left, has-right, ordered-append, overwritten_by, has-overwritten, overwritten-has, overwritten-ordered, has-if, if-has, if-ordered}
 

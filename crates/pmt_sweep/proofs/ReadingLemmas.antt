@@ -1,23 +1,18 @@
 -- What is read of a line: the newest and the oldest of the last stores to some of its bytes.
-use Rattle.std.proofs.Common.{◌≡◌, ℕ, ◌+◌, ◌-◌, ◌*◌, ◌/◌, ◌%◌, ◌<◌, ◌≤◌, ◌⊎◌, inl, inr, max, true, length, Option, Some, None, refl, sym, ap, subst, ◌∙◌, arith}
+use Rattle.std.proofs.Common.{◌≡◌, ℕ, ◌+◌, ◌-◌, ◌*◌, ◌%◌, ◌<◌, ◌≤◌, ◌⊎◌, inl, inr, max, true, length, Option, Some, None, refl, sym, ap, subst, ◌∙◌, arith}
 use Rattle.std.specs.Prelude.{nat_le, nat_lt, unwrap_or}
 use Rattle.std.proofs.lemmas.Bool.{cases_lt, le-leb, lt-ltb, and_from}
 use Rattle.std.proofs.lemmas.Nat.{div-add-mod', div-mul-add, mod_below}
-use Rattle.pmt_model.specs.Values.{Written, Layout, line_of}
-use Rattle.pmt_model.specs.Machine.{Stores, writes}
-use Rattle.pmt_model.specs.Traces.{Recording, IsTrace, IsAct, history}
-use Rattle.pmt_model.specs.Findings.{last_store_number}
+use Rattle.pmt_laws.specs.Prelude.{Written, Layout, line_of, Stores, writes, Recording, IsTrace, IsAct, history, last_store_number}
 use Rattle.pmt_laws.proofs.OverwrittenLemmas.{LastWriter, last_store_number-tells}
 use Rattle.pmt_safety.specs.Safety.{last_line_store_at}
 use Rattle.pmt_safety.proofs.StoreLemmas.{IsLineStore, last-is_store}
-use Rattle.pmt_tables.specs.Lasts.{last_at, IsLastTo, IsNewest, IsLeastAbove}
-use Rattle.pmt_tables.specs.Written.{last_number}
+use Rattle.pmt_tables.specs.Lasts.{last_at, IsLastTo, IsNewest, IsLeastAbove, last_number}
 use Rattle.pmt_tables.proofs.LineLemmas.{IsSize, Bytes32, Bytes64, Bytes128, Bytes256, size-of_format, store-of_trace}
 use Rattle.pmt_sweep.specs.declared.line_words.WordBytes.{WordBytes}
 use Rattle.pmt_sweep.specs.declared.known.Known.{Known}
-use Rattle.pmt_sweep.specs.LineWords.{word_address}
-use Rattle.pmt_sweep.specs.Parts.{IsPartOfWord}
-use Rattle.pmt_sweep.specs.Reading.{IsLineAt, last_in_line}
+use Rattle.pmt_sweep.specs.Known.{word_address, IsLineAt, last_in_line}
+use Rattle.pmt_sweep.specs.Judged.{IsPartOfWord}
 use Rattle.pmt_sweep.proofs.WordsLemmas.{byte-le_last}
 
 -- ---- All bytes of a line
@@ -78,9 +73,6 @@ pub record IsNewestBelow (low high end : ℕ) (last : ℕ → ℕ) (number : ℕ
   pub reached : (number ≡ 0) ⊎ IsLastTo low high last number
   pub greatest : (k : ℕ) → low ≤ k → k < high → k < end → last k ≤ number
 
-pub newest-none : (low high : ℕ) (last : ℕ → ℕ) → IsNewestBelow low high (low / 8 * 8) last 0
-newest-none low high last = record { reached = inl refl; greatest = λ k from to below. absurd (omega (arith, from, below)) }
-
 pub newest-all : (low high end number : ℕ) (last : ℕ → ℕ) → high ≤ end → IsNewestBelow low high end last number → IsNewest low high last number
 newest-all low high end number last all is = record { reached = is.reached; greatest = λ k from to. is.greatest k from to (omega (arith, to, all)) }
 
@@ -117,9 +109,6 @@ module _ (word low high : ℕ) (part : WordBytes) (last here : ℕ → ℕ) (is_
 pub record IsOldestBelow (low high end : ℕ) (last : ℕ → ℕ) (number : ℕ) : Type 0 where
   pub reached : (number ≡ 0) ⊎ ((0 < number) × IsLastTo low high last number)
   pub least : (k : ℕ) → low ≤ k → k < high → k < end → 0 < last k → (0 < number) × (number ≤ last k)
-
-pub oldest-none : (low high : ℕ) (last : ℕ → ℕ) → IsOldestBelow low high (low / 8 * 8) last 0
-oldest-none low high last = record { reached = inl refl; least = λ k from to below some. absurd (omega (arith, from, below)) }
 
 pub oldest-all : (low high end number : ℕ) (last : ℕ → ℕ) → high ≤ end → IsOldestBelow low high end last number → IsLeastAbove 0 low high last number
 oldest-all low high end number last all is = record { reached = is.reached; least = λ k from to some. is.least k from to (omega (arith, to, all)) some }

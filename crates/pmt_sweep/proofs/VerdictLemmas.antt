@@ -3,15 +3,9 @@ use Rattle.std.proofs.Common.{◌≡◌, ◌≢◌, ℕ, suc, ◌<◌, ◌≤◌
 use Rattle.std.specs.Prelude.{◌↔◌, IsTrue}
 use Rattle.std.proofs.lemmas.Bool.{cases_lt}
 use Rattle.std.proofs.lemmas.Option.{same_Some}
-use Rattle.pmt_model.specs.declared.finding.Verdict.{Verdict}
-use Rattle.pmt_model.specs.Machine.{Act, Asserts}
-use Rattle.pmt_model.specs.Traces.{Recording, IsAct, act_of, event, history}
-use Rattle.pmt_model.specs.Assertions.{PersistPasses, OrderedPasses}
-use Rattle.pmt_model.specs.Analyses.{IsVerdictOf, OfPersist, OfOrdered, HasVerdict, InEventOrder, IsVerdicts}
+use Rattle.pmt_laws.specs.Prelude.{Verdict, Act, Asserts, Recording, IsAct, act_of, event, history, PersistPasses, OrderedPasses, IsVerdictOf, OfPersist, OfOrdered, HasVerdict, InEventOrder, IsVerdicts}
 use Rattle.pmt_laws.proofs.Histories.{act-unique, act-within}
-use Rattle.pmt_sweep.specs.Verdicts.{IsVerdictAt}
-use Rattle.pmt_sweep.specs.Adding.{with_verdict}
-use Rattle.pmt_sweep.specs.VerdictsSoFar.{AreVerdictsTo}
+use Rattle.pmt_sweep.specs.Found.{IsVerdictAt, with_verdict, AreVerdictsTo}
 
 -- ---- One verdict
 

@@ -1,25 +1,20 @@
 -- The words of lines: one more line, a store to a word, and other events.
 use Rattle.std.proofs.Common.{◌≡◌, ℕ, suc, ◌+◌, ◌*◌, ◌/◌, ◌-◌, ◌<◌, ◌≤◌, inl, inr, ◌==◌, Bool, true, false, List, [], ◌∷◌, ◌++◌, length, Option, Some, None, refl, sym, ap, subst, ◌∙◌, eqb-true, arith}
 use Rattle.std.specs.Prelude.{◌&&◌, if◌then◌else◌, nat_eq, unwrap_or, slice_get}
-use Rattle.std.specs.List.{IsDistinct}
 use Rattle.std.proofs.lemmas.Bool.{eq-eqb, both_ways}
 use Rattle.std.proofs.lemmas.Nat.{same_from_place, div-mul-add, mul-add-lt}
 use Rattle.std.proofs.lemmas.List.{length-append}
 use Rattle.std.proofs.lemmas.Option.{slice_get_within, same_Some}
-use Rattle.pmt_model.specs.Values.{Written, line_of}
-use Rattle.pmt_model.specs.Machine.{Act, Stores, writes}
-use Rattle.pmt_model.specs.Traces.{Recording, IsTrace, IsAct, history}
-use Rattle.pmt_model.specs.Findings.{last_store_number}
+use Rattle.pmt_laws.specs.Prelude.{Written, line_of, Act, Stores, writes, Recording, IsTrace, IsAct, history, last_store_number, IsDistinct}
 use Rattle.pmt_laws.proofs.OverwrittenLemmas.{last_store_number-is}
 use Rattle.pmt_safety.specs.Safety.{last_line_store_at}
 use Rattle.pmt_safety.proofs.StoreLemmas.{last-greatest}
 use Rattle.pmt_tables.specs.Slots.{IsSlotOf}
 use Rattle.pmt_tables.proofs.ListLemmas.{one-slot, push-cases}
-use Rattle.pmt_tables.specs.Lasts.{last_at, is_in, with_store}
-use Rattle.pmt_tables.specs.Written.{last_number, IsWordAt, WritesIn}
+use Rattle.pmt_tables.specs.Lasts.{last_at, is_in, with_store, last_number, IsWordAt, WritesIn}
 use Rattle.pmt_tables.proofs.LineLemmas.{byte-from_writes, writes-line}
 use Rattle.pmt_tables.proofs.WrittenLemmas.{words_go_on}
-use Rattle.pmt_sweep.specs.LineWords.{word_address, AreWordsOf}
+use Rattle.pmt_sweep.specs.Known.{word_address, AreWordsOf}
 
 -- so many words were added
 pub record AreAdded (many : ℕ) (old new : List (List ℕ)) : Type 0 where

@@ -1,7 +1,7 @@
 //! What is found or judged at an event is added to what was before.
 ghost use Rattle.std.specs.Prelude.{◌≡◌, [], ◌++◌, OnOk};
 ghost use Rattle.pmt_model.specs.declared.finding.Finding.TheVariants.{Overwritten};
-ghost use Rattle.pmt_sweep.specs.Adding.{found_if, overwritten, with_verdict};
+ghost use Rattle.pmt_sweep.specs.Found.{found_if, overwritten, with_verdict};
 
 use crate::Noted;
 use crate::noted::note;

@@ -2,8 +2,8 @@
 ghost use Rattle.std.specs.Prelude.{◌≡◌, length, IfOk};
 ghost use Rattle.pmt_model.specs.Traces.{Recording, history, lines_of};
 ghost use Rattle.pmt_sweep.specs.Known.{IsKnownOf};
-ghost use Rattle.pmt_sweep.specs.Late.{AreKnownLate};
-ghost use Rattle.pmt_sweep.specs.SafePlaces.{AreSafePlaces};
+ghost use Rattle.pmt_sweep.specs.Found.{AreKnownLate};
+ghost use Rattle.pmt_sweep.specs.Entries.{AreSafePlaces};
 
 use crate::ends::Ends;
 use crate::known::Known;

@@ -1,7 +1,7 @@
 //! What is left of what is known once a trace has ended.
 ghost use Rattle.std.specs.Prelude.{ℕ};
 ghost use Rattle.pmt_model.specs.Traces.{Recording};
-ghost use Rattle.pmt_sweep.specs.Ends.{AreEndsOf};
+ghost use Rattle.pmt_sweep.specs.Entries.{AreEndsOf};
 ghost use Rattle.pmt_sweep.specs.Known.{IsKnownOf};
 
 use crate::known::Known;

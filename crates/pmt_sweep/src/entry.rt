@@ -1,7 +1,6 @@
 //! What the entry of an event tells at the end of a trace.
 ghost use Rattle.std.specs.Prelude.{◌≡◌};
-ghost use Rattle.pmt_sweep.specs.Entries.{entry_of_lost as lost_before};
-ghost use Rattle.pmt_sweep.specs.SafePlaces.{tells_lost as is_lost};
+ghost use Rattle.pmt_sweep.specs.Entries.{entry_of_lost as lost_before, tells_lost as is_lost};
 
 // The entry of a store that is never safe: no flush of its line follows it, or one does. No place of a trace has either number.
 const UNFLUSHED: u32 = 0;

@@ -1,6 +1,6 @@
 //! Of each line the first thread that has flushed it since its last store, and the others.
 ghost use Rattle.std.specs.Prelude.{◌≡◌, ℕ, ◌+◌, ◌<◌, ◌^◌, [], length, max, get_or, IfOk, OnOk};
-ghost use Rattle.pmt_sweep.specs.First.{HasFirst, none_first, tells_at};
+ghost use Rattle.pmt_sweep.specs.Known.{HasFirst, none_first, tells_at};
 
 use crate::flushed::FlushedLines;
 use pmt_model::OutOfMemory;

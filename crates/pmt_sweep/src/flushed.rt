@@ -1,7 +1,6 @@
 //! Of each line threads that have flushed it since its last store.
 ghost use Rattle.std.specs.Prelude.{◌≡◌, ◌≢◌, ℕ, ◌+◌, ◌<◌, ◌^◌, ◌==◌, ◌||◌, false, [], length, max, get_or, IfOk, OnOk};
-ghost use Rattle.pmt_sweep.specs.Flushing.{HasFlush, IsAlike};
-ghost use Rattle.pmt_sweep.specs.Since.{none_since, tells_flush};
+ghost use Rattle.pmt_sweep.specs.Known.{HasFlush, IsAlike, none_since, tells_flush};
 
 use pmt_model::OutOfMemory;
 use pmt_rows::Flushers;

@@ -1,10 +1,9 @@
 //! The verdict of an event.
 ghost use Rattle.std.specs.Prelude.{◌≡◌, ℕ, Some};
-ghost use Rattle.pmt_model.specs.declared.event.Event.{Event};
-ghost use Rattle.pmt_model.specs.Traces.{Recording, event};
+ghost use Rattle.pmt_laws.specs.Prelude.{Event, Recording, event};
 ghost use Rattle.pmt_sweep.specs.Known.{IsKnownOf};
-ghost use Rattle.pmt_sweep.specs.Oldest.{AreOldestOf};
-ghost use Rattle.pmt_sweep.specs.Verdicts.{IsVerdictAt};
+ghost use Rattle.pmt_sweep.specs.Judged.{AreOldestOf};
+ghost use Rattle.pmt_sweep.specs.Found.{IsVerdictAt};
 
 use crate::known::Known;
 use crate::oldest::OldestStores;

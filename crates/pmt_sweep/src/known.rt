@@ -1,12 +1,8 @@
 //! What is known of lines and of stores.
 ghost use Rattle.std.specs.Prelude.{◌≡◌, ℕ, suc, ◌<◌, ◌^◌, ◌↔◌, true, false, List, length, IfOk, OnOk};
-ghost use Rattle.pmt_model.specs.Findings.{IsEmptyFence, IsRedundantClflush, IsRedundantFlush};
-ghost use Rattle.pmt_model.specs.Keeping.{IsKept};
-ghost use Rattle.pmt_model.specs.Machine.{Asserts, Clflushes, Fences, Flushes};
-ghost use Rattle.pmt_model.specs.Traces.{Recording, IsAct, IsTrace, history, lines_of, with_line};
-ghost use Rattle.pmt_model.specs.Values.{Written};
+ghost use Rattle.pmt_laws.specs.Prelude.{IsEmptyFence, IsRedundantClflush, IsRedundantFlush, IsKept, Asserts, Clflushes, Fences, Flushes, Recording, IsAct, IsTrace, history, lines_of, with_line, Written};
 ghost use Rattle.pmt_tables.specs.Slots.{IsSlotOf};
-ghost use Rattle.pmt_sweep.specs.Flags.{FlagsKept};
+ghost use Rattle.pmt_sweep.specs.Passing.{FlagsKept};
 ghost use Rattle.pmt_sweep.specs.Known.{AddsOverwrittenBy, IsActAt, IsKnownAmong, IsKnownOf, IsStoreAt, IsStoreNext};
 
 use crate::first_flush::FirstFlushes;

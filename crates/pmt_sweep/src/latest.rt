@@ -1,7 +1,6 @@
 //! The lines with the greatest numbers.
 ghost use Rattle.std.specs.Prelude.{◌≡◌, ℕ, Option, ◌==◌, ◌&&◌, ◌||◌, not, nat_le};
-ghost use Rattle.pmt_sweep.specs.Latest.{IsLatest, IsLatestBut, Tells, none_told};
-ghost use Rattle.pmt_sweep.specs.Lines.{no_place};
+ghost use Rattle.pmt_sweep.specs.Judged.{IsLatest, IsLatestBut, Tells, none_told, no_place};
 
 use pmt_tables::Spanned;
 

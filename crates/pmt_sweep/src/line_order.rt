@@ -1,14 +1,10 @@
 //! What an order of two ranges asks of their lines.
 ghost use Rattle.std.specs.Prelude.{◌≡◌, ℕ, ◌+◌, ◌^◌, ◌<◌, ◌↔◌, true};
-ghost use Rattle.pmt_model.specs.Traces.{Recording};
-ghost use Rattle.pmt_model.specs.Values.{Span};
+ghost use Rattle.pmt_laws.specs.Prelude.{Recording, Span};
 ghost use Rattle.pmt_safety.specs.Safety.{last_line_store_at, safe_store_at};
-ghost use Rattle.pmt_tables.specs.Spans.{IsSpanned};
-ghost use Rattle.pmt_sweep.specs.Known.{IsKnownOf};
-ghost use Rattle.pmt_sweep.specs.Reading.{IsLineAt};
-ghost use Rattle.pmt_sweep.specs.Lines.{AreSafeFrom, AreSafeFromBelow, IsAtLine, IsLineBefore, IsLineOrdered, IsNewestIn, IsOldestIn, IsToldFrom};
-ghost use Rattle.pmt_sweep.specs.Oldest.{AreOldestOf};
-ghost use Rattle.pmt_sweep.specs.Placed.{IsLineOf};
+ghost use Rattle.pmt_tables.specs.Slots.{IsSpanned};
+ghost use Rattle.pmt_sweep.specs.Known.{IsKnownOf, IsLineAt, IsLineOf};
+ghost use Rattle.pmt_sweep.specs.Judged.{AreSafeFrom, AreSafeFromBelow, IsAtLine, IsLineBefore, IsLineOrdered, IsNewestIn, IsOldestIn, IsToldFrom, AreOldestOf};
 
 use crate::known::Known;
 use crate::latest::Latest;

@@ -1,9 +1,9 @@
 //! The words of lines, by the slots of the lines.
 ghost use Rattle.std.specs.Prelude.{◌≡◌, ◌+◌, ◌*◌, ◌<◌, ◌≤◌};
 ghost use Rattle.pmt_model.specs.Values.{line_of as line_in};
-ghost use Rattle.pmt_tables.specs.Written.{WritesIn};
-ghost use Rattle.pmt_sweep.specs.LineWords.{word_address};
-ghost use Rattle.pmt_sweep.specs.Parts.{IsPartOfWord};
+ghost use Rattle.pmt_tables.specs.Lasts.{WritesIn};
+ghost use Rattle.pmt_sweep.specs.Known.{word_address};
+ghost use Rattle.pmt_sweep.specs.Judged.{IsPartOfWord};
 
 use pmt_model::{Format, WordStore};
 

@@ -2,7 +2,7 @@
 ghost use Rattle.std.specs.Prelude.{◌≡◌, ◌++◌, IfOk, OnOk};
 ghost use Rattle.pmt_model.specs.Traces.{Recording};
 ghost use Rattle.pmt_sweep.specs.Entries.{AreLostAfter, AreMarked, lost_at};
-ghost use Rattle.pmt_sweep.specs.Late.{AreKnownLate};
+ghost use Rattle.pmt_sweep.specs.Found.{AreKnownLate};
 
 use crate::entry::{FLUSHED, tells_lost};
 use crate::noted::{Noted, note};

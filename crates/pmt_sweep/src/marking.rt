@@ -1,9 +1,7 @@
 //! Which stores are never safe, by the entries of events.
 ghost use Rattle.std.specs.Prelude.{ℕ, length};
 ghost use Rattle.pmt_model.specs.Traces.{Recording};
-ghost use Rattle.pmt_sweep.specs.Ends.{AreEndsOf};
-ghost use Rattle.pmt_sweep.specs.Entries.{AreLostAfter, AreMarked};
-ghost use Rattle.pmt_sweep.specs.Marking.{IsLineEnd, IsLineLostAfter, IsLineMarked};
+ghost use Rattle.pmt_sweep.specs.Entries.{AreEndsOf, AreLostAfter, AreMarked, IsLineEnd, IsLineLostAfter, IsLineMarked};
 
 use crate::entry::entry_of_lost;
 use pmt_rows::{Row, Rows};

@@ -1,8 +1,7 @@
 //! Findings in eight bytes each: a trace may have as many as it has events.
 ghost use Rattle.std.specs.Prelude.{◌≡◌, ◌≤◌, [], ◌∷◌, ◌++◌, IfNone, IfOk, IfSome, OnOk};
-ghost use Rattle.pmt_model.specs.Analyses.{reported_at};
-ghost use Rattle.pmt_model.specs.declared.finding.Finding.TheVariants.{NeverPersisted};
-ghost use Rattle.pmt_sweep.specs.Noting.{LacksRoom, finding_from, first_without_room};
+ghost use Rattle.pmt_laws.specs.Prelude.{reported_at, NeverPersisted};
+ghost use Rattle.pmt_sweep.specs.Found.{LacksRoom, finding_from, first_without_room};
 
 use pmt_model::{Finding, OutOfMemory};
 use std::alloc::{AllocError, Global};
@@ -34,7 +33,7 @@ impl Model for Noted {
 
     ghost Value = { Finding };
 
-    ghost use Rattle.pmt_sweep.specs.Noting.{finding_in, inside_of, inside_back};
+    ghost use Rattle.pmt_sweep.specs.Found.{finding_in, inside_of, inside_back};
 
     ghost view = { finding_in };
 

@@ -2,8 +2,8 @@
 ghost use Rattle.std.specs.Prelude.{◌≡◌, ℕ, ◌+◌, ◌<◌, ◌≤◌, ◌^◌, [], length, max};
 ghost use Rattle.pmt_model.specs.Traces.{Recording};
 ghost use Rattle.pmt_tables.specs.Lasts.{IsLeastAbove};
-ghost use Rattle.pmt_sweep.specs.Oldest.{AreOldestOf, IsKeptAt};
-ghost use Rattle.pmt_sweep.specs.Reading.{IsLineAt, last_in_line};
+ghost use Rattle.pmt_sweep.specs.Judged.{AreOldestOf, IsKeptAt};
+ghost use Rattle.pmt_sweep.specs.Known.{IsLineAt, last_in_line};
 
 use crate::known::Known;
 use std::alloc::Global;

@@ -1,13 +1,9 @@
 //! Whether a range persists before another.
 ghost use Rattle.std.specs.Prelude.{◌≡◌, ℕ, ◌↔◌, true};
-ghost use Rattle.pmt_model.specs.Assertions.{OrderedPasses};
-ghost use Rattle.pmt_model.specs.Traces.{Recording, history};
-ghost use Rattle.pmt_model.specs.Values.{Span};
-ghost use Rattle.pmt_tables.specs.Spans.{IsSpanned};
-ghost use Rattle.pmt_sweep.specs.Known.{IsKnownOf};
-ghost use Rattle.pmt_sweep.specs.Lines.{AreSafeFrom, IsLineOrdered};
-ghost use Rattle.pmt_sweep.specs.Oldest.{AreOldestOf};
-ghost use Rattle.pmt_sweep.specs.Placed.{IsLineOf};
+ghost use Rattle.pmt_laws.specs.Prelude.{OrderedPasses, Recording, history, Span};
+ghost use Rattle.pmt_tables.specs.Slots.{IsSpanned};
+ghost use Rattle.pmt_sweep.specs.Known.{IsKnownOf, IsLineOf};
+ghost use Rattle.pmt_sweep.specs.Judged.{AreSafeFrom, IsLineOrdered, AreOldestOf};
 
 use crate::known::Known;
 use crate::latest::Latest;

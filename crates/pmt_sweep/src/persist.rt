@@ -1,11 +1,8 @@
 //! Whether a range is persisted.
 ghost use Rattle.std.specs.Prelude.{◌≡◌, ℕ, ◌≤◌, ◌↔◌, true};
-ghost use Rattle.pmt_model.specs.Assertions.{PersistPasses};
-ghost use Rattle.pmt_model.specs.Traces.{Recording, history};
-ghost use Rattle.pmt_model.specs.Values.{Span};
-ghost use Rattle.pmt_sweep.specs.Known.{IsKnownOf};
-ghost use Rattle.pmt_sweep.specs.Lines.{IsAtLine, IsLineSafe};
-ghost use Rattle.pmt_sweep.specs.Placed.{IsLineOf};
+ghost use Rattle.pmt_laws.specs.Prelude.{PersistPasses, Recording, history, Span};
+ghost use Rattle.pmt_sweep.specs.Known.{IsKnownOf, IsLineOf};
+ghost use Rattle.pmt_sweep.specs.Judged.{IsAtLine, IsLineSafe};
 
 use crate::known::Known;
 use crate::placed::Placed;

@@ -5,8 +5,7 @@ ghost use Rattle.pmt_tables.specs.Slots.{IsFound};
 ghost use Rattle.pmt_rows.specs.Known.{row_after};
 ghost use Rattle.pmt_safety.specs.Safety.{safe_store_at};
 ghost use Rattle.pmt_tables.specs.Lasts.{IsLeastAbove, IsNewest};
-ghost use Rattle.pmt_sweep.specs.Known.{IsKnownOf};
-ghost use Rattle.pmt_sweep.specs.Reading.{IsLineAt, last_in_line};
+ghost use Rattle.pmt_sweep.specs.Known.{IsKnownOf, IsLineAt, last_in_line};
 
 use crate::known::Known;
 use crate::line_words::part_of_word;

@@ -1,9 +1,7 @@
 //! From which place on each store of a trace is safe.
 ghost use Rattle.std.specs.Prelude.{◌≡◌, ℕ, ◌<◌, length, slice_index};
-ghost use Rattle.pmt_model.specs.Machine.{Stores};
-ghost use Rattle.pmt_model.specs.Traces.{Recording, IsAct};
-ghost use Rattle.pmt_model.specs.Values.{Written};
-ghost use Rattle.pmt_sweep.specs.SafePlaces.{AreSafePlaces, IsSafePlace, place_in};
+ghost use Rattle.pmt_laws.specs.Prelude.{Stores, Recording, IsAct, Written};
+ghost use Rattle.pmt_sweep.specs.Entries.{AreSafePlaces, IsSafePlace, place_in};
 
 use crate::entry::tells_lost;
 use std::marker::Model;

@@ -1,13 +1,9 @@
 //! The pass over the events of a trace.
 ghost use Rattle.std.specs.Prelude.{◌≡◌, ℕ, suc, length, slice_get, Some, IfOk, OnOk};
-ghost use Rattle.pmt_model.specs.Analyses.{IsFindings, IsVerdicts};
-ghost use Rattle.pmt_model.specs.Keeping.{IsKeep};
-ghost use Rattle.pmt_model.specs.Machine.{Flushes, Clflushes, Fences, Asserts};
-ghost use Rattle.pmt_model.specs.Pushing.{empty, with_events};
-ghost use Rattle.pmt_model.specs.Traces.{Recording, IsAct, IsTrace, event, history, lines_of};
+ghost use Rattle.pmt_laws.specs.Prelude.{IsFindings, IsVerdicts, IsKeep, Flushes, Clflushes, Fences, Asserts, empty, with_events, Recording, IsAct, IsTrace, event, history, lines_of};
 ghost use Rattle.pmt_tables.specs.Flags.{marked_from};
 ghost use Rattle.pmt_sweep.specs.Known.{IsStoreNext};
-ghost use Rattle.pmt_sweep.specs.SafePlaces.{AreSafePlaces};
+ghost use Rattle.pmt_sweep.specs.Entries.{AreSafePlaces};
 ghost use Rattle.pmt_sweep.specs.Passing.{HasSwept, IsPassOf};
 
 use crate::adding::{move_overwritten, push_if, push_verdict};

@@ -6,8 +6,7 @@ use Rattle.std.proofs.lemmas.Bool.Decides.{nat_tests}
 use Rattle.std.proofs.lemmas.List.{map-append}
 use Rattle.pmt_model.specs.Selections.{IsRising, Has}
 use Rattle.pmt_tables.specs.declared.words.Overwrite.{Overwrite}
-use Rattle.pmt_tables.specs.Lasts.{is_in, IsLastTo, AddsOverwritten, IsLeastAbove}
-use Rattle.pmt_tables.specs.Packed.{number_of, low_of, high_of, last_by, first_table, is_covered, IsWhole}
+use Rattle.pmt_tables.specs.Lasts.{is_in, IsLastTo, AddsOverwritten, IsLeastAbove, number_of, low_of, high_of, last_by, first_table, is_covered, IsWhole}
 use Rattle.pmt_tables.proofs.ByteLemmas.{last-same}
 
 abbrev overwrites : ℕ → ℕ → Overwrite

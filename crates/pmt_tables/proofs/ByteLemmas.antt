@@ -3,8 +3,7 @@ use Rattle.std.proofs.Common.{◌≡◌, ℕ, zero, suc, ◌<◌, ◌≤◌, ◌
 use Rattle.std.specs.Prelude.{if◌then◌else◌, slice_index}
 use Rattle.std.proofs.lemmas.Bool.{cases_lt, cases_eq}
 use Rattle.std.proofs.lemmas.Bool.Decides.{nat_tests}
-use Rattle.pmt_tables.specs.Lasts.{is_in, IsLastTo, IsNewest, IsLeastAbove}
-use Rattle.pmt_tables.specs.Packed.{number_of, low_of, high_of, last_by, IsWhole}
+use Rattle.pmt_tables.specs.Lasts.{is_in, IsLastTo, IsNewest, IsLeastAbove, number_of, low_of, high_of, last_by, IsWhole}
 
 -- ---- Bytes of a range
 

@@ -5,8 +5,7 @@ use Rattle.std.proofs.Math.Seq.{take-suc}
 use Rattle.std.proofs.lemmas.Bool.{lt-ltb, false≢true}
 use Rattle.std.proofs.lemmas.List.{length-take}
 use Rattle.pmt_laws.proofs.CutLemmas.{has-above}
-use Rattle.pmt_model.specs.Selecting.{first_fall}
-use Rattle.pmt_model.specs.Selections.{IsRising, Has}
+use Rattle.pmt_laws.specs.Prelude.{first_fall, IsRising, Has}
 use Rattle.pmt_tables.specs.Flags.{is_kept_at, marked_from}
 
 -- with one mark more at the end

@@ -1,12 +1,11 @@
 -- Elements of a list by their slots.
 use Rattle.std.proofs.Common.{◌≡◌, ◌≢◌, ℕ, zero, suc, ◌<◌, ◌⊎◌, inl, inr, Bool, true, false, List, [], ◌∷◌, ◌++◌, length, set, map, Some, None, refl, sym, ap, ◌∙◌, arith}
 use Rattle.std.specs.Prelude.{◌==◌, ◌||◌, nat_eq, slice_get}
-use Rattle.std.specs.List.{list_any, IsDistinct}
+use Rattle.pmt_laws.specs.Prelude.{list_any, IsDistinct, has_line}
 use Rattle.std.proofs.lemmas.Bool.{cases_eq, cases_order, eq-eqb, ne_eqb, eqb-true, or_parts}
 use Rattle.std.proofs.lemmas.Bool.Decides.{Decides-eqb}
 use Rattle.std.proofs.lemmas.Map.Made.{AllPairs-from_IsDistinct}
 use Rattle.std.proofs.lemmas.Option.{get_or_from_slice_get, slice_get_within, same_Some}
-use Rattle.pmt_model.specs.Traces.{has_line}
 use Rattle.pmt_tables.specs.Slots.{IsFound}
 
 -- no element of a list without doubles has two slots

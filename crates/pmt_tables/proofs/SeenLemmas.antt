@@ -6,8 +6,7 @@ use Rattle.std.proofs.lemmas.Bool.Decides.{nat_tests}
 use Rattle.std.proofs.lemmas.Grind.{get_or_default_zero}
 use Rattle.std.proofs.lemmas.List.{length-map, length-set}
 use Rattle.pmt_tables.specs.declared.table.Table.{Table}
-use Rattle.pmt_tables.specs.Lasts.{is_in, last_at, with_store}
-use Rattle.pmt_tables.specs.Packed.{number_of, low_of, high_of, last_by, first_table, last_in, bytes_of, all_bytes, is_covered, IsWhole, AreWords}
+use Rattle.pmt_tables.specs.Lasts.{is_in, last_at, with_store, number_of, low_of, high_of, last_by, first_table, last_in, bytes_of, all_bytes, is_covered, IsWhole, AreWords}
 use Rattle.pmt_tables.proofs.WordLemmas.{seen, last-whole, whole-last, write-last, table-last}
 
 module _ (value : List (List ℕ)) (words : List ℕ) (tables : List Table) (view : all_bytes words tables ≡ value) (are : AreWords words tables) where

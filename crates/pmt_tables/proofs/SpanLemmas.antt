@@ -4,9 +4,8 @@ use Rattle.std.specs.Prelude.{IsTrue}
 use Rattle.std.proofs.lemmas.Bool.{eqb-true}
 use Rattle.std.proofs.lemmas.Nat.{le-div}
 use Rattle.std.proofs.Math.Nat.{div-mul-le_self}
-use Rattle.pmt_model.specs.Values.{Layout, line_of}
-use Rattle.pmt_model.specs.Formats.{IsFormat, is_line_size}
-use Rattle.pmt_tables.specs.Spans.{LinesAreMet}
+use Rattle.pmt_laws.specs.Prelude.{Layout, line_of, IsFormat, is_line_size}
+use Rattle.pmt_tables.specs.Slots.{LinesAreMet}
 
 -- a line has some bytes, and 256 at most
 record IsSmall (size : ℕ) : Type 0 where

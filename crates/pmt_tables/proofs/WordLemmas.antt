@@ -5,8 +5,7 @@ use Rattle.std.proofs.lemmas.Bool.{cases_lt, cases_eq, ne_eqb, lt-ltb, le-ltb}
 use Rattle.std.proofs.lemmas.List.{get_or-map, get_or-set_same, get_or-set_other, get_or-append_right, get_or-replicate, get_or_append_left, get_or_push, length-append, length-replicate, length-set, length_push}
 use Rattle.std.proofs.lemmas.List.Elements.{All-push, All-set}
 use Rattle.pmt_tables.specs.declared.table.Table.{Table}
-use Rattle.pmt_tables.specs.Lasts.{is_in, last_at}
-use Rattle.pmt_tables.specs.Packed.{number_of, low_of, high_of, last_by, first_table, no_table, last_of, last_in, bytes_of, all_bytes, IsWhole, AreWords}
+use Rattle.pmt_tables.specs.Lasts.{is_in, last_at, number_of, low_of, high_of, last_by, first_table, no_table, last_of, last_in, bytes_of, all_bytes, IsWhole, AreWords}
 
 -- a word below the first table has none, and one from there on has
 pub last-whole : (tables : List Table) (w k : ℕ) → w < first_table → last_of tables w k ≡ last_by w k

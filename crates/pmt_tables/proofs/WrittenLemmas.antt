@@ -2,14 +2,10 @@
 use Rattle.std.proofs.Common.{◌≡◌, ℕ, suc, ◌+◌, ◌-◌, ◌<◌, ◌≤◌, Bool, true, false, ◌∷◌, length, Option, Some, None, refl, sym, ap, subst, ◌∙◌, arith}
 use Rattle.std.specs.Prelude.{if◌then◌else◌, unwrap_or, ◌↔◌}
 use Rattle.std.proofs.lemmas.Bool.Decides.{nat_tests}
-use Rattle.pmt_model.specs.Values.{Written}
-use Rattle.pmt_model.specs.Machine.{Act, Stores, Flushes, Clflushes, Fences, Asserts, writes}
-use Rattle.pmt_model.specs.Traces.{Recording, IsAct, history}
-use Rattle.pmt_model.specs.Findings.{IsOverwritten, OverwritesBefore, last_store_number, last_flush}
+use Rattle.pmt_laws.specs.Prelude.{Written, Act, Stores, Flushes, Clflushes, Fences, Asserts, writes, Recording, IsAct, history, IsOverwritten, OverwritesBefore, last_store_number, last_flush}
 use Rattle.pmt_laws.proofs.Histories.{act-unique, act-within, history-act, length-history}
 use Rattle.pmt_laws.proofs.OverwrittenLemmas.{overwritten_by_numbers, last_store_number-is}
-use Rattle.pmt_tables.specs.Lasts.{is_in, IsLastTo}
-use Rattle.pmt_tables.specs.Written.{last_number, IsWordAt, WritesIn, WordsGoOn, OverwrittenByWord}
+use Rattle.pmt_tables.specs.Lasts.{is_in, IsLastTo, last_number, IsWordAt, WritesIn, WordsGoOn, OverwrittenByWord}
 use Rattle.pmt_tables.proofs.LineLemmas.{byte-from_writes, writes-line}
 
 -- which bytes of the word the store writes

@@ -1,6 +1,3 @@
 pub mod Flags
-pub mod Spans
-pub mod Lasts
-pub mod Packed
-pub mod Written
 pub mod Slots
+pub mod Lasts

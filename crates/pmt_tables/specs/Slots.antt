@@ -1,6 +1,8 @@
--- Where lines stand.
-use Rattle.std.specs.Prelude.{◌≡◌, ◌≢◌, ◌<◌, ◌+◌, ◌-◌, ◌*◌, ◌/◌, ◌%◌, ◌^◌, ℕ, suc, List, [], ◌∷◌, ◌++◌, Some, Option, MatchOption, bit_and, bit_or, length, nat_eq, slice_get, slice_index, if◌then◌else◌}
-use Rattle.std.specs.List.{IsDistinct, list_any}
+-- Where lines stand, and the lines that a range meets.
+use Rattle.std.specs.Prelude.{◌≡◌, ◌≢◌, ◌<◌, ◌+◌, ◌-◌, ◌*◌, ◌/◌, ◌%◌, ◌^◌, ℕ, suc, List, [], ◌∷◌, ◌++◌, Some, Option, MatchOption, bit_and, bit_or, length, nat_eq, slice_get, slice_index, if◌then◌else◌, ◌≤◌, ◌↔◌}
+use Rattle.pmt_laws.specs.Prelude.{Layout, Span, IsRange, line_of, IsFormat, InSpan, IsDistinct, list_any}
+use Rattle.pmt_tables.specs.declared.spanned.Spanned.{Spanned}
+use Rattle.pmt_tables.specs.declared.spanned.LineBytes.{LineBytes}
 
 -- Line l stands at this slot.
 abbrev pub IsSlotOf : ℕ → ℕ → List ℕ → Type 0
@@ -30,3 +32,23 @@ AreIndexed lines cells = IsDistinct nat_eq lines × ((slot l : ℕ) → IsSlotOf
 -- The lines once line l has a slot: if it had none, it goes last.
 abbrev pub insert_line : List ℕ → ℕ → List ℕ
 insert_line lines l = if list_any (nat_eq l) lines then lines else lines ++ l ∷ []
+
+-- The value is that of this range, in lines of this format.
+pub record IsSpanned (f : Layout) (A : Span) (s : Spanned) : Type 0 where
+  pub format : IsFormat f
+  pub range : IsRange A
+  pub low : s.first * f.line_size + s.low ≡ A.addr
+  pub high : s.last * f.line_size + s.high ≡ A.addr + A.len
+  pub size : s.size ≡ f.line_size
+  pub first : s.first ≡ line_of f A.addr
+  pub last : s.last ≡ line_of f (A.addr + A.len - 1)
+
+-- The bytes of line l are those of the range that are of this line; there are some.
+pub record AreBytesOf (f : Layout) (A : Span) (l : ℕ) (p : LineBytes) : Type 0 where
+  pub some : p.low < p.high
+  pub within : p.high ≤ f.line_size
+  pub just : (o : ℕ) → o < f.line_size → ((p.low ≤ o) × (o < p.high)) ↔ InSpan A (l * f.line_size + o)
+
+-- A byte of the range is of a line that it meets.
+abbrev pub LinesAreMet : Type 0
+LinesAreMet = (f : Layout) (A : Span) (s : Spanned) (b : ℕ) → IsSpanned f A s → InSpan A b → (s.first ≤ line_of f b) × (line_of f b ≤ s.last)

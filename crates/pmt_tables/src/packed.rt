@@ -1,7 +1,6 @@
 //! A word of which one store wrote all that is known, in one number.
 ghost use Rattle.std.specs.Prelude.{◌≡◌, ◌<◌, ◌≤◌, ◌^◌, ◌/◌, ◌%◌, ◌&&◌, nat_le, nat_lt};
-ghost use Rattle.pmt_tables.specs.Packed.{number_of as store_of, low_of as first_of, high_of as end_of, first_table, is_covered, IsWhole, last_by};
-ghost use Rattle.pmt_tables.specs.Lasts.{IsLeastAbove, IsNewest};
+ghost use Rattle.pmt_tables.specs.Lasts.{number_of as store_of, low_of as first_of, high_of as end_of, first_table, is_covered, IsWhole, last_by, IsLeastAbove, IsNewest};
 
 // A word of which nothing is known: no byte from 8 on stands before 0.
 pub(crate) const NONE: u32 = 0x80;

@@ -1,7 +1,7 @@
 //! A range, line by line.
 ghost use Rattle.std.specs.Prelude.{◌≡◌, ℕ, ◌<◌, ◌≤◌, ◌/◌, ◌^◌, ◌&&◌, nat_le};
 ghost use Rattle.pmt_model.specs.Values.{Layout, Span};
-ghost use Rattle.pmt_tables.specs.Spans.{AreBytesOf, IsSpanned};
+ghost use Rattle.pmt_tables.specs.Slots.{AreBytesOf, IsSpanned};
 
 use pmt_model::{Format, Range};
 

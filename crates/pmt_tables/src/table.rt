@@ -1,7 +1,6 @@
 //! A table of the last store to each byte of a word.
 ghost use Rattle.std.specs.Prelude.{◌≡◌, ℕ, ◌==◌, ◌<◌, ◌≤◌, ◌&&◌, ◌||◌, if◌then◌else◌, nat_lt, true, length, slice_index, OnOk};
-ghost use Rattle.pmt_tables.specs.Lasts.{AddsOverwritten, IsLeastAbove, IsNewest, is_in};
-ghost use Rattle.pmt_tables.specs.Packed.{high_of as end_of, is_covered, IsWhole, last_by};
+ghost use Rattle.pmt_tables.specs.Lasts.{AddsOverwritten, IsLeastAbove, IsNewest, is_in, high_of as end_of, is_covered, IsWhole, last_by};
 
 use crate::packed::{high_of, low_of, number_of};
 use crate::words::Overwrite;

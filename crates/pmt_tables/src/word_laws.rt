@@ -1,6 +1,6 @@
 //! What words tell of a trace: each function has an empty body, and its contract states a law.
 
-ghost use Rattle.pmt_tables.specs.Written.{OverwrittenByWord, WordsGoOn};
+ghost use Rattle.pmt_tables.specs.Lasts.{OverwrittenByWord, WordsGoOn};
 
 /// The last stores to the bytes of a word go on event by event.
 pub fn words_go_on()

@@ -1,7 +1,6 @@
 //! The words of all lines, each by its slot.
 ghost use Rattle.std.specs.Prelude.{◌≡◌, ℕ, [], ◌+◌, ◌<◌, ◌≤◌, ◌^◌, if◌then◌else◌, length, slice_index, nat_lt, IfOk, OnOk, OnErr};
-ghost use Rattle.pmt_tables.specs.Lasts.{AddsOverwritten, IsLeastAbove, IsNewest, last_at, with_store};
-ghost use Rattle.pmt_tables.specs.Packed.{AreWords, first_table, last_in};
+ghost use Rattle.pmt_tables.specs.Lasts.{AddsOverwritten, IsLeastAbove, IsNewest, last_at, with_store, AreWords, first_table, last_in};
 
 use crate::packed::{FIRST_TABLE, NONE, covers, number_in, number_of, packed};
 use crate::table::{
@@ -29,7 +28,7 @@ pub struct Words {
 
 impl Model for Words {
     ghost use Rattle.std.specs.Prelude.{ℕ, List};
-    ghost use Rattle.pmt_tables.specs.Packed.{AreWords, all_bytes};
+    ghost use Rattle.pmt_tables.specs.Lasts.{AreWords, all_bytes};
 
     ghost Value = { List (List ℕ) };
 

@@ -2,10 +2,7 @@
 use Rattle.std.proofs.Common.{◌≡◌, ℕ, zero, suc, ◌<◌, ◌≤◌, List, [], ◌∷◌, ◌++◌, length, map, reverse, Some, refl, sym, ap, ◌∙◌, arith}
 use Rattle.std.specs.Prelude.{slice_get}
 use Rattle.std.proofs.lemmas.List.{take-append-le, length-append}
-use Rattle.pmt_model.specs.declared.event.Event.{Event}
-use Rattle.pmt_model.specs.Machine.{Act}
-use Rattle.pmt_model.specs.Traces.{Recording, act, event, IsAct, history}
-use Rattle.pmt_model.specs.Pushing.{with_event}
+use Rattle.pmt_laws.specs.Prelude.{Event, Act, Recording, act, event, IsAct, history, with_event}
 use Rattle.pmt_laws.proofs.Histories.{history-suc, act-within}
 
 slice_get-left : {A : Type 0} (xs ys : List A) (k : ℕ) → k < length xs → slice_get (xs ++ ys) k ≡ slice_get xs k

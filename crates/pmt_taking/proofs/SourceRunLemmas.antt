@@ -1,11 +1,7 @@
 -- What a source has told and given while its events are taken.
 use Rattle.std.proofs.Common.{◌≡◌, ◌≢◌, ℕ, ◌+◌, ◌<◌, ◌≤◌, inl, inr, List, [], ◌∷◌, ◌++◌, length, Option, Some, None, Result, Ok, Err, refl, ap, sym, subst, ◌∙◌, arith}
 use Rattle.std.proofs.lemmas.List.{length-append}
-use Rattle.std.proofs.lemmas.Option.{same_Some}
-use Rattle.pmt_model.specs.declared.event.Event.{Event}
-use Rattle.pmt_model.specs.Values.{Layout}
-use Rattle.pmt_model.specs.Traces.{Recording, event_limit}
-use Rattle.pmt_model.specs.Pushing.{with_event, empty}
+use Rattle.pmt_laws.specs.Prelude.{Event, Layout, Recording, event_limit, with_event, empty}
 use Rattle.pmt_text.specs.declared.kind.SourceError.{SourceError}
 use Rattle.pmt_text.specs.declared.kind.SourceError.TheVariants.{Failed}
 use Rattle.pmt_text.specs.declared.source.SourceState.{SourceState}
@@ -15,8 +11,7 @@ use Rattle.pmt_text.specs.Sources.{Gives, IsOver, TakesNext, HasFormat, TakesFor
 use Rattle.pmt_text.proofs.SourceLemmas.{Gives-over, Gives-same, Gives-trans, whole-parts}
 use Rattle.pmt_taking.specs.declared.taking.TakeError.{TakeError}
 use Rattle.pmt_taking.specs.declared.taking.TakeError.TheVariants as refusals
-use Rattle.pmt_taking.specs.Sourcing.{TakesFirst, TellsEnd, TellsNothing, told_by}
-use Rattle.pmt_taking.specs.Blocks.{LeavesRest, RefusedLeaves, Shown, TakesBlock}
+use Rattle.pmt_taking.specs.Sourcing.{TakesFirst, TellsEnd, TellsNothing, told_by, LeavesRest, RefusedLeaves, Shown, TakesBlock}
 
 -- no read has failed since
 abbrev pub SameReads : Option ℕ → Option ℕ → Type 0
@@ -144,18 +139,6 @@ pub record BlockSoFar (most : ℕ) (first now : Shown) (B : Recording) : Type 0 
   pub roomy : length B.events + now.room ≤ first.room
   pub same_format : (f : Layout) → first.format ≡ Some f → B.format ≡ f
 
-format-kept : (old new : Option Layout) (f g : Layout) → KeepsFormat old new → new ≡ Some f → old ≡ Some g → f ≡ g
-format-kept old new f g kept known was = same_Some f g (sym known ∙ subst (λ o. KeepsFormat o new) was kept)
-
-pub block-none : (most : ℕ) (first now : Shown) (f : Layout) → TakesFormat first.coming (Ok f) now.coming → TellsFormat first.state (Ok f) now.state → now.format ≡ Some f → KeepsFormat first.format now.format → CountsReads first.failures (Ok f) now.failures → now.room ≡ first.room → now.room ≤ event_limit →
-    BlockSoFar most first now (empty f)
-block-none most first now f takes tells known kept counts same few = record {
-  so_far = so_far-none first now f takes tells known counts few;
-  few = omega arith;
-  roomy = omega (arith, same);
-  same_format = λ g was. format-kept first.format now.format f g kept known was;
-}
-
 pub block-more : (most : ℕ) (first now next : Shown) (B : Recording) (e : Event) → length B.events < most → BlockSoFar most first now B → TakesNext now.coming (Ok (Some e)) next.coming → TellsNext now.state (Ok (Some e)) next.state → KeepsFormat now.format next.format → CountsReads now.failures (Ok (Some e)) next.failures → LeavesFewer now.room (Ok (Some e)) next.room →
     BlockSoFar most first next (with_event B e)
 block-more most first now next B e within block takes tells kept counts fewer = record {
@@ -187,14 +170,6 @@ block-ready most first now next lent B after block ready few roomy state format 
       roomy = omega (arith, roomy, block.roomy);
       same_format = λ f was. ap (λ U. U.format) ready.added ∙ block.same_format f was;
     }
-
-pub block-full : (most : ℕ) (first now : Shown) (B : Recording) → length B.events ≡ most → BlockSoFar most first now B → TakesBlock most first now B
-block-full most first now B full block = record {
-  first = so_far-full most first now B block.so_far full;
-  known = block.so_far.in_format;
-  same_format = block.same_format;
-  roomy = block.roomy;
-}
 
 pub block-ended : (most : ℕ) (first now next : Shown) (B : Recording) → length B.events < most → BlockSoFar most first now B → TakesNext now.coming (Ok None) next.coming → TellsNext now.state (Ok None) next.state → KeepsFormat now.format next.format → next.room ≡ now.room →
     TakesBlock most first next B

@@ -1,2 +1,1 @@
 pub mod Sourcing
-pub mod Blocks

@@ -1,11 +1,9 @@
 //! Taking the events of a source.
 ghost use Rattle.std.specs.Prelude.{◌≡◌, ◌<◌, ℕ, List, Option, length, IfOk, IfErr, IfSome, OnErr, OnOk};
-ghost use Rattle.pmt_model.specs.Pushing.{with_event};
-ghost use Rattle.pmt_model.specs.Traces.{event_limit, IsEventIn};
+ghost use Rattle.pmt_laws.specs.Prelude.{with_event, event_limit, IsEventIn};
 ghost use Rattle.pmt_text.specs.Coming.{ComesWhole};
 ghost use Rattle.pmt_text.specs.Sources.{CountsReads};
-ghost use Rattle.pmt_taking.specs.Sourcing.{IsFaultOf, TellsRefusal, TellsSplit, told_by};
-ghost use Rattle.pmt_taking.specs.Blocks.{RefusedLeaves, TakesBlock, shown_by};
+ghost use Rattle.pmt_taking.specs.Sourcing.{IsFaultOf, TellsRefusal, TellsSplit, told_by, RefusedLeaves, TakesBlock, shown_by};
 ghost use Rattle.pmt_taking.specs.declared.taking.TakeError.TheVariants.{Source, OutOfMemory};
 
 use pmt_model::{Event, OutOfMemory, Trace};

@@ -1,8 +1,7 @@
 -- What stands after the word of a line: the thread, the arguments, and the LF.
 use Rattle.std.proofs.Common.{◌≡◌, ℕ, List, ◌∷◌, ◌++◌, ap, sym, ◌∙◌, append_assoc}
-use Rattle.pmt_text.specs.Spelling.{address, numeral}
+use Rattle.pmt_text.specs.Spelling.{address, numeral, spaced}
 use Rattle.pmt_text.specs.Spelled.{spelled_span}
-use Rattle.pmt_text.specs.Writing.{spaced}
 
 -- one field more
 pub spaced-more : (field : List ℕ) (fields : List (List ℕ)) (text rest : List ℕ) → text ≡ spaced fields ++ rest → 32 ∷ (field ++ text) ≡ spaced (field ∷ fields) ++ rest

@@ -1,17 +1,12 @@
 -- How the spans of an assertion, read one by one, meet the op that the fields spell; and how the thread joins an op.
 use Rattle.std.proofs.Common.{◌≡◌, ℕ, ◌≤◌, inl, inr, Bool, true, false, ◌&&◌, List, [], ◌∷◌, Option, Some, None, option_map, Result, Ok, Err, refl, sym, ◌∙◌, ap, ap₂, arith, lt-ltb, le-ltb}
 use Rattle.std.proofs.lemmas.Bool.{cond-false, and_left, cases_lt}
-use Rattle.pmt_model.specs.declared.event.Op.{Op}
-use Rattle.pmt_model.specs.declared.event.Op.TheVariants.{IsPersist, IsOrderedBefore}
-use Rattle.pmt_model.specs.declared.event.Event.{Event}
-use Rattle.pmt_model.specs.Values.{Span}
+use Rattle.pmt_text.specs.Prelude.{Op, IsPersist, IsOrderedBefore, Event, Span}
 use Rattle.pmt_text.specs.declared.kind.TextKind.{TextKind}
 use Rattle.pmt_text.specs.declared.kind.TextKind.TheVariants.{BadField, OutOfRange, CrossesWord}
 use Rattle.pmt_text.specs.declared.word.Word.{Word}
 use Rattle.pmt_text.specs.declared.word.Word.TheVariants as words
-use Rattle.pmt_text.specs.Fields.{◌>>=◌, number_in, span_in, persist_in, ordered_in, op_in, event_in}
-use Rattle.pmt_text.specs.Judging.{required, checked, is_thread, is_span, is_in_range, is_in_word, op_checked, event_checked}
-use Rattle.pmt_text.specs.Reading.{capped, first_number, first_span, op_of_fields, span_checked, with_thread}
+use Rattle.pmt_text.specs.Judging.{◌>>=◌, number_in, span_in, persist_in, ordered_in, op_in, event_in, required, checked, is_thread, is_span, is_in_range, is_in_word, op_checked, event_checked, capped, first_number, first_span, op_of_fields, span_checked, with_thread}
 use Rattle.pmt_text.proofs.OpLemmas.{span-capped, kept, kept_span}
 
 -- ---- isPersist

@@ -5,14 +5,9 @@ use Rattle.std.specs.Int.Digits.{digits_of}
 use Rattle.std.proofs.lemmas.List.{length-map, length-append}
 use Rattle.std.proofs.lemmas.Int.Digits.{length-digits_of-le}
 use Rattle.std.proofs.lemmas.Bool.Decides.{nat_tests}
-use Rattle.pmt_model.specs.declared.event.Op.{Op}
-use Rattle.pmt_model.specs.declared.event.Op.TheVariants.{Store, Clwb, ClflushOpt, Clflush, Sfence, Mfence, IsPersist, IsOrderedBefore}
-use Rattle.pmt_model.specs.declared.event.Event.{Event}
-use Rattle.pmt_model.specs.Values.{Layout, Span, IsRange}
-use Rattle.pmt_model.specs.Formats.{IsFormat}
-use Rattle.pmt_model.specs.Traces.{IsOp, IsEvent, IsEventIn}
+use Rattle.pmt_text.specs.Prelude.{Op, Store, Clwb, ClflushOpt, Clflush, IsPersist, IsOrderedBefore, Event, Layout, Span, IsRange, IsFormat, IsOp, IsEvent, IsEventIn}
 use Rattle.pmt_text.specs.Spelling.{glyph, numeral, address, hex_bytes, word_text, word_of, arguments_of, ended, event_fields, event_line, event_text, header, spelling}
-use Rattle.pmt_text.specs.TextLaws.{SpelledIsShort, SpelledComesWhole}
+use Rattle.pmt_text.specs.Texts.{SpelledIsShort, SpelledComesWhole}
 use Rattle.pmt_text.proofs.NumeralLemmas.{numeral-zero, numeral-above}
 use Rattle.pmt_text.proofs.WholeLemmas.{spelled_is_read, within_bound}
 

@@ -4,19 +4,17 @@ use Rattle.std.proofs.Math.Seq.{drop-cons, take-append_seam}
 use Rattle.std.proofs.lemmas.List.{take-append-drop, nil_from_length}
 use Rattle.std.proofs.lemmas.Grind.{take_at_read}
 use Rattle.std.proofs.lemmas.Bool.{eqb-true, eqb-false}
-use Rattle.pmt_model.specs.declared.event.Event.{Event}
-use Rattle.pmt_model.specs.Values.{Layout}
-use Rattle.pmt_model.specs.Traces.{event_limit}
+use Rattle.pmt_text.specs.Prelude.{Event, Layout, event_limit}
 use Rattle.pmt_text.specs.declared.kind.TextKind.{TextKind}
 use Rattle.pmt_text.specs.declared.kind.TextKind.TheVariants.{Truncated, BadHeader, TooManyEvents}
 use Rattle.pmt_text.specs.declared.kind.SourceError.{SourceError}
-use Rattle.pmt_text.specs.declared.kind.SourceError.TheVariants.{Text, TooMany, Read, OutOfMemory, Failed}
+use Rattle.pmt_text.specs.declared.kind.SourceError.TheVariants.{Text, TooMany}
 use Rattle.pmt_text.specs.declared.line_reader.LineReader.{LineReader}
 use Rattle.pmt_text.specs.declared.line_reader.Found.TheVariants.{End}
 use Rattle.pmt_text.specs.Judging.{line_judged}
 use Rattle.pmt_text.specs.Coming.{format_in, fault_at, rest_fault}
-use Rattle.pmt_text.specs.Lines.{Ahead, ahead, known_ahead, known_of, held, unread, IsLineAt, IsEventAt, Finds}
 use Rattle.pmt_text.specs.OneLine.{IsOneLine}
+use Rattle.pmt_text.specs.Lines.{Ahead, ahead, known_ahead, known_of, held, unread, IsLineAt, IsEventAt, Finds}
 use Rattle.pmt_text.specs.Spelled.{IsFirstEvent}
 use Rattle.pmt_text.specs.Spelling.{event_line, event_text}
 use Rattle.pmt_text.specs.Sources.{Gives, IsOver, HasFormat, Faults, Lends}

@@ -9,8 +9,7 @@ use Rattle.std.proofs.lemmas.Bool.Decides.{nat_tests}
 use Rattle.std.proofs.lemmas.Grind.{same_number_lists}
 use Rattle.std.proofs.lemmas.Slice.Eq.{bytes_eq-Decides}
 use Rattle.pmt_text.specs.Spelling.{glyph, numeral, address, hex_bytes}
-use Rattle.pmt_text.specs.Fields.{number_in, address_in, bytes_in, paired}
-use Rattle.pmt_text.specs.Reading.{capped, digit_of, GivesBytes}
+use Rattle.pmt_text.specs.Judging.{number_in, address_in, bytes_in, paired, capped, digit_of, GivesBytes}
 use Rattle.pmt_text.proofs.NumeralLemmas.{AreDigits, AreDigits-at, digit_of-glyph, digit_value-glyph, digit_value-digit_of, glyph-digit_of, number_in-numeral}
 
 -- ---- Addresses

@@ -1,18 +1,12 @@
 -- How the parts of a line, read one by one, meet what the line is judged as.
 use Rattle.std.proofs.Common.{◌≡◌, ℕ, ◌<◌, ◌≤◌, Bool, true, false, List, [], ◌∷◌, length, take, Option, Some, None, option_map, Result, Ok, Err, refl, sym, ◌∙◌, ap, arith}
-use Rattle.pmt_model.specs.declared.event.Op.{Op}
-use Rattle.pmt_model.specs.declared.event.Op.TheVariants.{Clwb, ClflushOpt, Clflush, Sfence, Mfence}
-use Rattle.pmt_model.specs.Ops.{store_of}
-use Rattle.pmt_model.specs.Values.{Layout}
-use Rattle.pmt_model.specs.Formats.{first_version}
+use Rattle.pmt_text.specs.Prelude.{Op, Clwb, ClflushOpt, Clflush, Sfence, Mfence, store_of, Layout, first_version}
 use Rattle.pmt_text.specs.declared.kind.TextKind.{TextKind}
 use Rattle.pmt_text.specs.declared.kind.TextKind.TheVariants.{BadWord, BadField, OutOfRange}
 use Rattle.pmt_text.specs.declared.word.Word.{Word}
 use Rattle.pmt_text.specs.declared.word.Word.TheVariants as words
 use Rattle.pmt_text.specs.Spelling.{hex_bytes}
-use Rattle.pmt_text.specs.Fields.{bytes_in, flushed_in, op_in, event_in}
-use Rattle.pmt_text.specs.Judging.{fields_of, word_in, required, checked, is_address, op_checked, event_checked, event_judged, op_judged, line_judged, script_line_judged}
-use Rattle.pmt_text.specs.Reading.{GivesBytes, first_number, op_of_fields, flushed_of_fields, fence_of_fields, with_thread}
+use Rattle.pmt_text.specs.Judging.{bytes_in, flushed_in, op_in, event_in, fields_of, word_in, required, checked, is_address, op_checked, event_checked, event_judged, op_judged, line_judged, script_line_judged, GivesBytes, first_number, op_of_fields, flushed_of_fields, fence_of_fields, with_thread}
 use Rattle.pmt_text.proofs.FieldLemmas.{hex_bytes-bytes_in, bytes_in-empty}
 use Rattle.pmt_text.proofs.OpLemmas.{store_checked, in_text, store_of-checked, store-long}
 use Rattle.pmt_text.proofs.AssertLemmas.{event-none, event-some}

@@ -2,18 +2,12 @@
 use Rattle.std.proofs.Common.{◌≡◌, ℕ, true, ◌&&◌, List, [], ◌∷◌, Some, Ok, refl, sym, ◌∙◌, ap, ap₂, subst}
 use Rattle.std.specs.List.{join_with_byte}
 use Rattle.std.proofs.lemmas.List.Splits.{join_with_byte-slice_split}
-use Rattle.pmt_model.specs.declared.event.Op.{Op}
-use Rattle.pmt_model.specs.declared.event.Op.TheVariants.{Store, Clwb, ClflushOpt, Clflush, Sfence, Mfence, IsPersist, IsOrderedBefore}
-use Rattle.pmt_model.specs.declared.event.Event.{Event}
-use Rattle.pmt_model.specs.Values.{Layout, Span}
-use Rattle.pmt_model.specs.Formats.{first_version}
-use Rattle.pmt_model.specs.Traces.{IsOp, IsEventIn, in_format}
+use Rattle.pmt_text.specs.Prelude.{Op, Store, Clwb, ClflushOpt, Clflush, Sfence, Mfence, IsPersist, IsOrderedBefore, Event, Layout, Span, first_version, IsOp, IsEventIn, in_format}
 use Rattle.pmt_text.specs.declared.kind.TextKind.TheVariants.{BadWord, BadField, OutOfRange, CrossesWord}
 use Rattle.pmt_text.specs.declared.word.Word.{Word}
 use Rattle.pmt_text.specs.declared.word.Word.TheVariants as words
 use Rattle.pmt_text.specs.Spelling.{numeral, address, word_text, arguments_of, event_line, op_line}
-use Rattle.pmt_text.specs.Fields.{◌>>=◌, number_in, address_in, bytes_in, span_in, store_in, flushed_in, none_in, persist_in, ordered_in, op_in, event_in}
-use Rattle.pmt_text.specs.Judging.{fields_of, word_in, is_known, required, checked, is_thread, is_in_range, is_in_word, op_checked, event_checked, event_judged, op_judged, line_judged, script_line_judged}
+use Rattle.pmt_text.specs.Judging.{◌>>=◌, number_in, address_in, bytes_in, span_in, store_in, flushed_in, none_in, persist_in, ordered_in, op_in, event_in, fields_of, word_in, is_known, required, checked, is_thread, is_in_range, is_in_word, op_checked, event_checked, event_judged, op_judged, line_judged, script_line_judged}
 use Rattle.pmt_text.specs.JudgedEvents.{bind-some, map-some, required-ok, checked-ok, is_op, in_format-is_known, op_named, event_judged-in}
 use Rattle.pmt_text.proofs.NumeralLemmas.{numeral-number_in}
 use Rattle.pmt_text.proofs.FieldLemmas.{address-address_in, hex_bytes-bytes_in}

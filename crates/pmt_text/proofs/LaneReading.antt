@@ -10,7 +10,7 @@ use Rattle.std.specs.List.{prefix_len}
 use Rattle.std.specs.Str.Parse.{digits_value}
 use Rattle.pmt_lanes.specs.Digits.{is_hex_digit, paired, IsNumberFirst}
 use Rattle.pmt_text.specs.Spelling.{glyph, hex_bytes, numeral}
-use Rattle.pmt_text.specs.Reading.{digit_of, IsBase}
+use Rattle.pmt_text.specs.Judging.{digit_of, IsBase}
 use Rattle.pmt_text.proofs.FieldLemmas.{hex_bytes-paired}
 use Rattle.pmt_text.proofs.NumeralLemmas.{glyph-digit_of}
 use Rattle.pmt_text.proofs.NumberWriting.{numeral-digit}

@@ -3,10 +3,8 @@ use Rattle.std.proofs.Common.{◌≡◌, ℕ, suc, ◌+◌, ◌-◌, ◌*◌, �
 use Rattle.std.proofs.Math.Seq.{drop-cons}
 use Rattle.std.proofs.lemmas.List.{drop-set, drop_all}
 use Rattle.pmt_model.specs.declared.event.Event.{Event}
-use Rattle.pmt_text.specs.LineTexts.{Puts}
-use Rattle.pmt_text.specs.Reading.{IsBase}
-use Rattle.pmt_text.specs.Spelling.{glyph, hex_bytes, hex_pair, numeral, word_of, word_text, arguments_of, event_text}
-use Rattle.pmt_text.specs.Writing.{spaced}
+use Rattle.pmt_text.specs.Spelling.{Puts, glyph, hex_bytes, hex_pair, numeral, word_of, word_text, arguments_of, event_text, spaced}
+use Rattle.pmt_text.specs.Judging.{IsBase}
 use Rattle.pmt_text.proofs.NumberWriting.{numeral-step, numeral-digit}
 use Rattle.pmt_text.proofs.LineWriting.{event_text-parts}
 

@@ -2,10 +2,8 @@
 use Rattle.std.proofs.Common.{◌≡◌, ℕ, ◌==◌, List, [], ◌∷◌, ◌++◌, codes, sym, ◌∙◌, ap, append_assoc, append-nil, eq-eqb, ne_eqb}
 use Rattle.std.specs.List.{join_with_byte}
 use Rattle.std.proofs.lemmas.Bool.{cond-true, cond-false}
-use Rattle.pmt_model.specs.declared.event.Event.{Event}
-use Rattle.pmt_model.specs.Values.{Layout}
-use Rattle.pmt_text.specs.Spelling.{numeral, header, word_text, word_of, arguments_of, event_line, event_text}
-use Rattle.pmt_text.specs.Writing.{spaced}
+use Rattle.pmt_text.specs.Prelude.{Event, Layout}
+use Rattle.pmt_text.specs.Spelling.{numeral, header, word_text, word_of, arguments_of, event_line, event_text, spaced}
 
 -- each field but the first stands behind a space
 pub join-spaced : (field : List ℕ) (fields : List (List ℕ)) → join_with_byte 32 (field ∷ fields) ≡ field ++ spaced fields

@@ -1,10 +1,8 @@
 -- The event of a trace that comes next.
 use Rattle.std.proofs.Common.{◌≡◌, ℕ, zero, suc, ◌+◌, ◌-◌, ◌<◌, List, [], ◌∷◌, length, drop, Option, Some, refl, sym, ◌∙◌, subst, ap, add-one, arith, Ok}
 use Rattle.std.specs.List.{slice_get, AllByRecursion}
-use Rattle.pmt_model.specs.declared.event.Event.{Event}
-use Rattle.pmt_model.specs.Traces.{Recording, event, IsTrace, IsEventIn}
-use Rattle.pmt_text.specs.ListSources.{rest_of_trace}
-use Rattle.pmt_text.specs.Sources.{TakesNext, IsGivenIn, LeavesFewer}
+use Rattle.pmt_text.specs.Prelude.{Event, Recording, event, IsTrace, IsEventIn}
+use Rattle.pmt_text.specs.Sources.{rest_of_trace, TakesNext, IsGivenIn, LeavesFewer}
 
 -- the element at n is the first of those from n on
 pub found_at : (es : List Event) (n : ℕ) → n < length es → (e : Event) × (slice_get es n ≡ Some e) × (drop n es ≡ e ∷ drop (suc n) es)

@@ -3,8 +3,7 @@ use Rattle.std.proofs.Common.{◌≡◌, ℕ, suc, ◌+◌, ◌*◌, ◌^◌, �
 use Rattle.std.specs.Str.Parse.{digits_value}
 use Rattle.std.proofs.lemmas.Bool.{cases_eq, cases_lt}
 use Rattle.std.proofs.lemmas.Int.Digits.{digits_value_more}
-use Rattle.pmt_text.specs.Fields.{number_in}
-use Rattle.pmt_text.specs.Reading.{capped, digit_of, IsBase}
+use Rattle.pmt_text.specs.Judging.{number_in, capped, digit_of, IsBase}
 use Rattle.pmt_text.proofs.NumeralLemmas.{AreDigits, base-low, base-high, digit_value-digit_of, number_in-other, number_in-spelled, no_numeral-empty, no_numeral-leading_zero, no_numeral-other, numeral-digits_value, numeral-one_zero}
 
 -- what a reader answers of a field

@@ -4,7 +4,7 @@ use Rattle.std.specs.Int.Digits.{digits_of}
 use Rattle.std.proofs.lemmas.List.{map-append, drop-set}
 use Rattle.std.proofs.lemmas.Int.Digits.{digits_of_step}
 use Rattle.pmt_text.specs.Spelling.{glyph, numeral, hex_pair}
-use Rattle.pmt_text.specs.Reading.{IsBase}
+use Rattle.pmt_text.specs.Judging.{IsBase}
 use Rattle.pmt_text.proofs.NumeralLemmas.{base-low, numeral-above, numeral-zero, digits_of-digit}
 
 -- a number of two digits or more ends with its last one

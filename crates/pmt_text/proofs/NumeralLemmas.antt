@@ -11,8 +11,7 @@ use Rattle.std.proofs.lemmas.Bool.Decides.{nat_tests}
 use Rattle.std.proofs.lemmas.Slice.Eq.{bytes_eq-Decides}
 use Rattle.std.proofs.lemmas.Int.Digits.{digits_value_is, digits_of_step, all_below_base_digits_of, first_digits_of, number_digits_of, number_after_ge}
 use Rattle.pmt_text.specs.Spelling.{glyph, numeral}
-use Rattle.pmt_text.specs.Fields.{number_in}
-use Rattle.pmt_text.specs.Reading.{digit_of, IsBase}
+use Rattle.pmt_text.specs.Judging.{number_in, digit_of, IsBase}
 
 -- ---- Digits
 

@@ -3,19 +3,12 @@ use Rattle.std.proofs.Common.{◌≡◌, ℕ, ◌+◌, ◌^◌, ◌<◌, ◌≤�
 use Rattle.std.specs.List.{onto_first}
 use Rattle.std.proofs.lemmas.Bool.{cond-false, and_left, and_right, and_parts, cases_lt, lt-leb}
 use Rattle.std.proofs.lemmas.Bool.Decides.{nat_tests}
-use Rattle.pmt_model.specs.declared.event.Op.{Op}
-use Rattle.pmt_model.specs.declared.event.Op.TheVariants.{Store}
-use Rattle.pmt_model.specs.declared.fault.OpError.{OpError}
+use Rattle.pmt_text.specs.Prelude.{Op, Store, OpError, Span, address_of, store_of}
 use Rattle.pmt_model.specs.declared.fault.OpError.TheVariants as faults
-use Rattle.pmt_model.specs.Values.{Span}
-use Rattle.pmt_model.specs.Constructing.{address_of}
-use Rattle.pmt_model.specs.Ops.{store_of}
 use Rattle.pmt_text.specs.declared.kind.TextKind.{TextKind}
 use Rattle.pmt_text.specs.declared.kind.TextKind.TheVariants.{BadField, OutOfRange, CrossesWord}
 use Rattle.pmt_text.specs.declared.word.Word.TheVariants as words
-use Rattle.pmt_text.specs.Fields.{◌>>=◌, number_in, address_in, bytes_in, span_in, store_in, flushed_in}
-use Rattle.pmt_text.specs.Judging.{fields_of, required, checked, is_address, is_span, is_in_range, is_in_word, op_checked}
-use Rattle.pmt_text.specs.Reading.{capped, fields_left, first_number, first_address, first_span, op_of_fields, flushed_of_fields, kind_of, span_checked}
+use Rattle.pmt_text.specs.Judging.{◌>>=◌, number_in, address_in, bytes_in, span_in, store_in, flushed_in, fields_of, required, checked, is_address, is_span, is_in_range, is_in_word, op_checked, capped, fields_left, first_number, first_address, first_span, op_of_fields, flushed_of_fields, kind_of, span_checked}
 
 -- ---- What is left
 

@@ -2,14 +2,11 @@
 use Rattle.std.proofs.Common.{◌≡◌, ℕ, ◌+◌, ◌<◌, ◌≤◌, List, [], ◌∷◌, ◌++◌, length, Option, Some, None, IfSome, refl, sym, ap, ◌∙◌, subst, ◌-◌, ◌⊎◌, inl, inr, arith, append_assoc, length-append}
 use Rattle.std.specs.List.{AllByRecursion, flat_map}
 use Rattle.std.proofs.lemmas.List.{append_cancel_right}
-use Rattle.pmt_model.specs.declared.event.Event.{Event}
-use Rattle.pmt_model.specs.Values.{Layout}
-use Rattle.pmt_model.specs.Traces.{Recording, IsEventIn, event_limit}
+use Rattle.pmt_text.specs.Prelude.{Event, Layout, Recording, IsEventIn, event_limit, with_events}
 use Rattle.pmt_text.specs.declared.line_reader.LineReader.{LineReader}
 use Rattle.pmt_text.specs.Counting.{inner_device}
 use Rattle.pmt_text.specs.Lines.{known_ahead, known_of, held, last_line}
-use Rattle.pmt_model.specs.Pushing.{with_events}
-use Rattle.pmt_text.specs.Plain.{AreFirstEvents}
+use Rattle.pmt_text.specs.Spelled.{AreFirstEvents}
 use Rattle.pmt_text.specs.Sources.{Gives, LendsAll, TakesReady}
 use Rattle.pmt_text.specs.declared.source.SourceState.{SourceState}
 use Rattle.pmt_text.specs.declared.source.SourceState.TheVariants.{Open}

@@ -1,11 +1,7 @@
 -- What the readers of whole texts answer, at each of their returns.
 use Rattle.std.proofs.Common.{◌≡◌, ℕ, ◌+◌, Bool, true, false, ◌==◌, List, [], ◌∷◌, length, Option, Some, None, Result, Ok, Err, refl, sym, ◌∙◌, ap, subst, arith, eqb-true, eq-eqb, true≢false}
 use Rattle.std.specs.Borrow.{Bor}
-use Rattle.pmt_model.specs.declared.event.Op.{Op}
-use Rattle.pmt_model.specs.declared.event.Event.{Event}
-use Rattle.pmt_model.specs.Values.{Layout}
-use Rattle.pmt_model.specs.Pushing.{empty}
-use Rattle.pmt_model.specs.Traces.{Recording}
+use Rattle.pmt_text.specs.Prelude.{Op, Event, Layout, empty, Recording}
 use Rattle.pmt_text.specs.declared.kind.TextKind.{TextKind}
 use Rattle.pmt_text.specs.declared.kind.TextKind.TheVariants.{Truncated, BadHeader}
 use Rattle.pmt_text.specs.declared.kind.ReadError.{ReadError}

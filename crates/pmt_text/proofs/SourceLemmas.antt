@@ -1,11 +1,9 @@
 -- What a consumer of a source concludes from the calls that it made.
 use Rattle.std.proofs.Common.{◌≡◌, List, [], ◌++◌, Option, Some, None, IfSome, refl, sym, ap, ◌∙◌, subst, append_assoc, append-nil}
-use Rattle.pmt_model.specs.declared.event.Event.{Event}
-use Rattle.pmt_model.specs.Values.{Layout}
+use Rattle.pmt_text.specs.Prelude.{Event, Recording}
 use Rattle.pmt_text.specs.declared.kind.SourceError.{SourceError}
-use Rattle.pmt_model.specs.Traces.{Recording}
 use Rattle.pmt_text.specs.Coming.{Coming, whole}
-use Rattle.pmt_text.specs.Sources.{Gives, IsOver, HasFormat}
+use Rattle.pmt_text.specs.Sources.{Gives, IsOver}
 
 -- nothing was taken yet
 pub Gives-nil : (a : Option Coming) → Gives a [] a
@@ -37,8 +35,3 @@ Gives-over (Some c) b es fault p q =
 -- what came, from its parts
 pub whole-parts : (c : Coming) (T : Recording) → c.format ≡ Some T.format → c.events ≡ T.events → c.fault ≡ None → c ≡ whole T
 whole-parts c T f e d = λ i. record { format = f i; events = e i; fault = d i }
-
--- the format that comes is that which came
-pub HasFormat-Gives : (a b : Option Coming) (es : List Event) (f : Option Layout) → Gives a es b → HasFormat b f → HasFormat a f
-HasFormat-Gives None b es f p q = tt
-HasFormat-Gives (Some c) b es f p q = subst (λ (o : Option Coming). HasFormat o f) p.2 q

@@ -2,19 +2,12 @@
 use Rattle.std.proofs.Common.{◌≡◌, ℕ, ◌+◌, ◌%◌, ◌^◌, ◌<◌, ◌≤◌, true, false, not, ◌&&◌, ◌==◌, nat_le, List, [], ◌∷◌, ◌++◌, length, codes, Option, Some, Ok, refl, sym, ◌∙◌, ap, inl, inr, arith, lt-ltb, le-leb}
 use Rattle.std.specs.List.{AllByRecursion, join_with_byte, list_all}
 use Rattle.std.proofs.lemmas.Bool.{and_parts, and_from, cond-true, not-true}
-use Rattle.pmt_model.specs.declared.event.Op.{Op}
-use Rattle.pmt_model.specs.declared.event.Op.TheVariants.{Store, Clwb, ClflushOpt, Clflush, Sfence, Mfence, IsPersist, IsOrderedBefore}
-use Rattle.pmt_model.specs.declared.event.Event.{Event}
-use Rattle.pmt_model.specs.Values.{Layout, Span, IsRange, AreBytes}
-use Rattle.pmt_model.specs.Formats.{first_version}
-use Rattle.pmt_model.specs.Traces.{IsOp, IsEvent, IsEventIn, in_format}
+use Rattle.pmt_text.specs.Prelude.{Op, Store, Clwb, ClflushOpt, Clflush, Sfence, Mfence, IsPersist, IsOrderedBefore, Event, Layout, Span, IsRange, AreBytes, first_version, IsOp, IsEvent, IsEventIn, in_format}
 use Rattle.pmt_text.specs.declared.kind.TextKind.TheVariants.{BadWord, BadField}
 use Rattle.pmt_text.specs.declared.word.Word.{Word}
 use Rattle.pmt_text.specs.declared.word.Word.TheVariants as words
 use Rattle.pmt_text.specs.Spelling.{numeral, address, hex_bytes, word_text, word_of, arguments_of, event_fields, event_line, op_fields, op_line}
-use Rattle.pmt_text.specs.Fields.{◌>>=◌, bytes_in, span_in, store_in, flushed_in, persist_in, ordered_in, op_in, event_in}
-use Rattle.pmt_text.specs.Judging.{fields_of, word_in, is_known, required, is_thread, is_address, is_span, is_in_range, is_in_word, op_checked, event_checked, event_judged, op_judged, line_judged, script_line_judged}
-use Rattle.pmt_text.specs.Reading.{digit_of}
+use Rattle.pmt_text.specs.Judging.{◌>>=◌, bytes_in, span_in, store_in, flushed_in, persist_in, ordered_in, op_in, event_in, fields_of, word_in, is_known, required, is_thread, is_address, is_span, is_in_range, is_in_word, op_checked, event_checked, event_judged, op_judged, line_judged, script_line_judged, digit_of}
 use Rattle.pmt_text.proofs.NumeralLemmas.{AreDigits, AreDigits-numeral, number_in-numeral, no_digit-space, no_digit-newline}
 use Rattle.pmt_text.proofs.FieldLemmas.{AreDigits-hex_bytes, address_in-address, bytes_in-hex_bytes}
 use Rattle.pmt_text.proofs.LineLemmas.{IsFree, parts-join}

@@ -1,18 +1,14 @@
 -- What one pass over a line takes, part by part.
-use Rattle.std.proofs.Common.{◌≡◌, ◌≢◌, ℕ, zero, suc, ◌<◌, ◌≤◌, List, [], ◌∷◌, ◌++◌, length, get_or, take, drop, refl, sym, ◌∙◌, ap, ap₂, arith, append_assoc}
+use Rattle.std.proofs.Common.{◌≡◌, ◌≢◌, ℕ, zero, suc, ◌<◌, ◌≤◌, List, [], ◌∷◌, ◌++◌, length, get_or, take, drop, refl, sym, ◌∙◌, ap, ap₂, arith, append_assoc, Option, Some, None, IfSome, Ok, length-append}
 use Rattle.std.proofs.lemmas.List.{take-append-drop}
 use Rattle.std.specs.Str.Parse.{digits_value}
-use Rattle.pmt_text.specs.Spelling.{numeral}
-use Rattle.pmt_text.specs.Reading.{digit_of, IsBase}
+use Rattle.pmt_text.specs.Spelling.{numeral, word_text, word_of, arguments_of, event_line, event_text, spaced}
+use Rattle.pmt_text.specs.Judging.{digit_of, IsBase}
 use Rattle.pmt_text.proofs.NumeralLemmas.{AreDigits, numeral-digits_value, numeral-zero}
-use Rattle.std.proofs.Common.{Option, Some, None, IfSome, Ok, length-append}
 use Rattle.std.specs.Borrow.{Bor}
-use Rattle.pmt_model.specs.declared.event.Event.{Event}
-use Rattle.pmt_model.specs.Values.{Layout}
+use Rattle.pmt_text.specs.Prelude.{Event, Layout}
 use Rattle.pmt_text.specs.declared.word.Word.{Word}
-use Rattle.pmt_text.specs.Spelling.{word_text, word_of, arguments_of, event_line, event_text}
 use Rattle.pmt_text.specs.Spelled.{IsAfterWord, IsFirstEvent}
-use Rattle.pmt_text.specs.Writing.{spaced}
 use Rattle.pmt_text.specs.Coming.{text_lines}
 use Rattle.pmt_text.specs.Texts.{SplitsJudged}
 use Rattle.pmt_text.proofs.LineLemmas.{parts-append}

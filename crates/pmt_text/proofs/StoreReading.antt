@@ -2,16 +2,11 @@
 use Rattle.std.proofs.Common.{◌≡◌, ℕ, zero, suc, ◌-◌, ◌<◌, ◌≤◌, List, [], ◌∷◌, ◌++◌, true, Some, length, drop, sym, ap, ap₂, ◌∙◌, arith, length-append}
 use Rattle.std.proofs.Math.Seq.{drop-append_seam}
 use Rattle.std.specs.Borrow.{Bor}
-use Rattle.pmt_model.specs.declared.event.Event.{Event}
-use Rattle.pmt_model.specs.declared.event.Op.{Op}
-use Rattle.pmt_model.specs.Pushing.{with_event}
-use Rattle.pmt_model.specs.Traces.{Recording, IsEventIn}
+use Rattle.pmt_text.specs.Prelude.{Event, Op, with_event, Recording, IsEventIn}
 use Rattle.pmt_text.specs.declared.spelled.SpelledStore.{SpelledStore}
 use Rattle.pmt_text.specs.declared.word.Word.TheVariants as words
-use Rattle.pmt_text.specs.Plain.{AddsFirst, AddsLine, AddsStore}
-use Rattle.pmt_text.specs.Spelled.{IsAfterWord, IsEventOfStore, spelled_store}
-use Rattle.pmt_text.specs.Spelling.{arguments_of, event_line, event_text, numeral, word_of, word_text}
-use Rattle.pmt_text.specs.Writing.{spaced}
+use Rattle.pmt_text.specs.Spelled.{AddsFirst, AddsLine, AddsStore, IsAfterWord, IsEventOfStore, spelled_store}
+use Rattle.pmt_text.specs.Spelling.{arguments_of, event_line, event_text, numeral, word_of, word_text, spaced}
 use Rattle.pmt_text.proofs.SpelledReading.{line-first}
 
 -- after the word stands the event of the store

@@ -4,22 +4,16 @@ use Rattle.std.specs.List.{AllByRecursion, flat_map, join_with_byte}
 use Rattle.std.specs.Str.{bytes_eq}
 use Rattle.std.proofs.lemmas.Bool.{cond-true, cond-false, and_parts, or_cases}
 use Rattle.std.proofs.lemmas.List.Splits.{join_with_byte-slice_split}
-use Rattle.pmt_model.specs.declared.event.Op.{Op}
-use Rattle.pmt_model.specs.declared.event.Op.TheVariants.{Store, Clwb, ClflushOpt, Clflush, Sfence, Mfence, IsPersist, IsOrderedBefore}
-use Rattle.pmt_model.specs.declared.event.Event.{Event}
-use Rattle.pmt_model.specs.Values.{Layout}
-use Rattle.pmt_model.specs.Formats.{IsFormat, first_version, is_line_size}
-use Rattle.pmt_model.specs.Traces.{Recording, IsTrace, IsEventIn, IsOp, in_format, event_limit}
+use Rattle.pmt_text.specs.Prelude.{Op, Store, Clflush, Mfence, Event, Layout, IsFormat, first_version, is_line_size, Recording, IsTrace, IsEventIn, IsOp, in_format, event_limit}
 use Rattle.pmt_text.specs.declared.kind.TextKind.{TextKind}
 use Rattle.pmt_text.specs.declared.kind.TextKind.TheVariants.{BadWord, BadField, TooManyEvents}
 use Rattle.pmt_text.specs.declared.kind.SourceError.{SourceError}
 use Rattle.pmt_text.specs.declared.word.Word.{Word}
 use Rattle.pmt_text.specs.declared.word.Word.TheVariants as words
 use Rattle.pmt_text.specs.Spelling.{ended, header, numeral, event_line, event_text, op_line, op_text, spelling, script_spelling, word_text}
-use Rattle.pmt_text.specs.Fields.{event_in}
-use Rattle.pmt_text.specs.Judging.{fields_of, required, is_known, event_checked, event_judged, line_judged, script_line_judged}
+use Rattle.pmt_text.specs.Judging.{event_in, fields_of, required, is_known, event_checked, event_judged, line_judged, script_line_judged}
 use Rattle.pmt_text.specs.Coming.{text_lines, fault_at, Items, ends_with, item_then, rest_fault, lines_coming, Coming, lines_of_trace, header_then, with_format, all_formats, format_in, trace_coming, judged, whole, script_coming, script_judged}
-use Rattle.pmt_text.specs.TextLaws.{is_of_first_version, IsScript, whole_script, SpelledIsRead, ReadIsSpelled, OneTraceOfText, OneTextOfTrace, FirstVersionStays, NewWordsAreBad, ScriptsAreSpelled, WithinBound}
+use Rattle.pmt_text.specs.Texts.{is_of_first_version, IsScript, whole_script, SpelledIsRead, ReadIsSpelled, OneTraceOfText, OneTextOfTrace, FirstVersionStays, NewWordsAreBad, ScriptsAreSpelled, WithinBound}
 use Rattle.pmt_text.proofs.LineLemmas.{IsFree, parts-append}
 use Rattle.pmt_text.proofs.ComingLemmas.{text_lines-nonempty, lines_coming-line}
 use Rattle.pmt_text.proofs.ReaderLemmas.{judged-lines}
@@ -111,10 +105,6 @@ event_lines : (f : Layout) (es : List Event) → AllByRecursion (IsEventIn f) es
 event_lines f [] h = tt
 event_lines f (e ∷ es) h = (record { free = event_line_free e; read = line_judged-event_line f e h.0 }, event_lines f es h.1)
 
-event_texts : (es : List Event) → flat_map event_text es ≡ flat_map (λ e. ended (event_line e)) es
-unfolding event_text
-event_texts es = refl
-
 abbrev HasHeader : Layout → Type 0
 HasHeader f = (format_in (header f) ≡ Some f) × IsFree 10 (header f)
 
@@ -137,9 +127,6 @@ has_128 = (format_in-128, free_from 10 (codes "pmtrace 2 128") refl)
 has_256 : HasHeader (sized 256)
 unfolding header numeral
 has_256 = (format_in-256, free_from 10 (codes "pmtrace 2 256") refl)
-
-layout : ℕ → ℕ → Layout
-layout v l = record { version = v; line_size = l }
 
 -- the header of each format is judged as the format, and has no LF
 has_header : (f : Layout) → IsFormat f → HasHeader f

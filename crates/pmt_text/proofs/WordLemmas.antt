@@ -4,8 +4,7 @@ use Rattle.std.specs.List.{AllByRecursion}
 use Rattle.std.specs.Str.{bytes_eq}
 use Rattle.std.proofs.lemmas.Bool.{cond-true, cond-false, and_left, and_right, and_parts, cases_Bool}
 use Rattle.std.proofs.lemmas.Slice.Eq.{bytes_eq-Decides}
-use Rattle.pmt_model.specs.Values.{Layout}
-use Rattle.pmt_model.specs.Formats.{first_version}
+use Rattle.pmt_model.specs.Values.{Layout, first_version}
 use Rattle.pmt_text.specs.declared.word.Word.{Word}
 use Rattle.pmt_text.specs.declared.word.Word.TheVariants as words
 use Rattle.pmt_text.specs.Spelling.{word_text, header, numeral}

@@ -2,11 +2,7 @@
 use Rattle.std.specs.Prelude.{◌≡◌, ℕ, ◌+◌, nat_lt, Bool, true, false, ◌==◌, if◌then◌else◌, List, [], ◌∷◌, length, take, find, Option, Some, None, IfSome, Result, Ok, Err, Vec}
 use Rattle.std.specs.List.{slice_split}
 use Rattle.std.specs.Str.{bytes_eq}
-use Rattle.pmt_model.specs.declared.event.Op.{Op}
-use Rattle.pmt_model.specs.declared.event.Event.{Event}
-use Rattle.pmt_model.specs.Values.{Layout}
-use Rattle.pmt_model.specs.Formats.{first_version}
-use Rattle.pmt_model.specs.Traces.{Recording, event_limit}
+use Rattle.pmt_text.specs.Prelude.{Op, Event, Layout, first_version, Recording, event_limit}
 use Rattle.pmt_text.specs.declared.kind.TextKind.{TextKind}
 use Rattle.pmt_text.specs.declared.kind.TextKind.TheVariants.{Truncated, BadHeader, TooManyEvents}
 use Rattle.pmt_text.specs.declared.kind.ReadError.{ReadError}

@@ -1,6 +1,8 @@
--- Which calls of a device count as failures.
+-- Which calls of a device count as failures, and what the devices for tests hold.
 use Rattle.std.specs.Prelude.{ℕ, zero, suc, List, [], ◌∷◌, Result, Ok, Err}
 use Rattle.pmt_text.specs.declared.counted.Counted.{Counted}
+use Rattle.pmt_text.specs.declared.devices.PieceReader.{PieceReader}
+use Rattle.pmt_text.specs.declared.devices.LimitedWriter.{LimitedWriter}
 
 -- the reader or writer inside
 abbrev pub inner_device : {D : Type 0} → Counted D → D
@@ -21,3 +23,11 @@ failed_write (Err e) piece = 1
 failed_write (Ok zero) [] = 0
 failed_write (Ok zero) (b ∷ bs) = 1
 failed_write (Ok (suc n)) piece = 0
+
+-- the bytes that reads still give
+abbrev pub bytes_left : PieceReader → List ℕ
+bytes_left r = r.bytes.now
+
+-- the bytes that were written
+abbrev pub bytes_kept : LimitedWriter → List ℕ
+bytes_kept w = w.kept.items

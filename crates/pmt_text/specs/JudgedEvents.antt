@@ -1,4 +1,4 @@
--- An event that a line is judged is within its limits and in the format: the law of a source over a text stands on it.
+-- That an event that a line is judged, or that a trace holds, is within its limits and of the format.
 use Rattle.std.specs.Prelude.{◌≡◌, ℕ, ◌+◌, ◌*◌, ◌/◌, ◌%◌, ◌^◌, ◌<◌, ◌≤◌, ◌==◌, Bool, true, false, cond, ◌&&◌, nat_le, find, List, [], ◌∷◌, length, drop, get_or, Option, Some, None, Result, Ok, Err, IfOk, refl}
 use Rattle.std.specs.Option.{option_map}
 use Rattle.std.specs.Char.{digit_value}
@@ -6,18 +6,16 @@ use Rattle.std.specs.Str.{bytes_eq}
 use Rattle.std.proofs.Common.{sym, ap, subst, ◌∙◌, arith, ltb-true, leb-true, eqb-true}
 use Rattle.std.proofs.lemmas.Bool.{and_parts, agree_below_at}
 use Rattle.std.proofs.lemmas.Slice.Eq.{bytes_eq-Decides}
-use Rattle.pmt_model.specs.declared.event.Op.{Op}
-use Rattle.pmt_model.specs.declared.event.Op.TheVariants.{Store, Clwb, ClflushOpt, Clflush, Sfence, Mfence, IsPersist, IsOrderedBefore}
-use Rattle.pmt_model.specs.declared.event.Event.{Event}
-use Rattle.pmt_model.specs.Values.{Layout, Span, AreBytes, IsRange}
-use Rattle.pmt_model.specs.Traces.{IsOp, IsEventIn, in_format}
+use Rattle.pmt_text.specs.Prelude.{Op, Store, Clwb, ClflushOpt, Clflush, Sfence, Mfence, IsPersist, IsOrderedBefore, Event, Layout, Span, AreBytes, IsRange, IsOp, IsEventIn, in_format, Recording}
+use Rattle.std.specs.List.{AllByRecursion, AllByRecursion-prop}
+use Rattle.std.specs.Coded.{Unit-prop}
+use Rattle.std.proofs.Props.{props}
 use Rattle.pmt_text.specs.declared.kind.TextKind.{TextKind}
 use Rattle.pmt_text.specs.declared.kind.TextKind.TheVariants.{BadWord, BadField, OutOfRange, CrossesWord}
 use Rattle.pmt_text.specs.declared.word.Word.{Word}
-use Rattle.pmt_text.specs.declared.word.Word.TheVariants as words
 use Rattle.pmt_text.specs.Spelling.{glyph, hex_bytes, word_text, word_of}
-use Rattle.pmt_text.specs.Fields.{◌>>=◌, number_in, address_in, bytes_in, paired, span_in, store_in, flushed_in, none_in, persist_in, ordered_in, op_in, event_in}
-use Rattle.pmt_text.specs.Judging.{fields_of, word_in, all_words, is_known, required, checked, is_thread, is_address, is_span, is_in_range, is_in_word, event_checked, event_judged, line_judged}
+use Rattle.pmt_text.specs.Judging.{◌>>=◌, number_in, address_in, bytes_in, paired, span_in, store_in, flushed_in, none_in, persist_in, ordered_in, op_in, event_in, fields_of, word_in, all_words, is_known, required, checked, is_thread, is_address, is_span, is_in_range, is_in_word, event_checked, event_judged, line_judged}
+use Rattle.pmt_text.specs.declared.word.Word.TheVariants as words
 
 -- ---- What an answer came from
 
@@ -218,3 +216,21 @@ line_judged-in f line e j = event_judged-in f (fields_of line) e j
 pub allowed_line : (f : Layout) (line : List ℕ) (r : Result Event TextKind) → r ≡ line_judged f line → IfOk r (IsEventIn f)
 allowed_line f line (Err kind) e = tt
 allowed_line f line (Ok event) e = line_judged-in f line event (sym e)
+
+-- ---- That the events of a trace are of its format is a fact, with one proof at most
+
+op-prop : (op : Op) → IsProp (IsOp op)
+op-prop (Store w) = Prim.hlevel props
+op-prop (Clwb a) = Prim.hlevel props
+op-prop (ClflushOpt a) = Prim.hlevel props
+op-prop (Clflush a) = Prim.hlevel props
+op-prop Sfence = Unit-prop
+op-prop Mfence = Unit-prop
+op-prop (IsPersist r) = Prim.hlevel props
+op-prop (IsOrderedBefore r q) = Prim.hlevel props
+
+event-prop : (f : Layout) (e : Event) → IsProp (IsEventIn f e)
+event-prop f e = let op = op-prop e.op in Prim.hlevel (props, op)
+
+pub are_of_format_prop : (T : Recording) → IsProp (AllByRecursion (IsEventIn T.format) T.events)
+are_of_format_prop T = AllByRecursion-prop _ (event-prop T.format) T.events

@@ -1,17 +1,16 @@
 -- What a reader of lines still has to give.
-use Rattle.std.specs.Prelude.{◌≡◌, ℕ, ◌+◌, ◌-◌, ◌<◌, ◌==◌, Bool, true, false, if◌then◌else◌, nat_lt, nat_le, List, [], ◌++◌, length, take, slice_index, slice_range, Option, Some, None, IfSome, option_map, Result, Ok, Err}
+use Rattle.std.specs.Prelude.{◌≢◌, ℕ, ◌<◌, List, length, slice_index, ◌≡◌, ◌+◌, ◌-◌, ◌==◌, Bool, true, false, if◌then◌else◌, nat_lt, nat_le, [], ◌++◌, take, slice_range, Option, Some, None, IfSome, option_map, Result, Ok, Err}
 use Rattle.std.specs.Io.KnownBytes.{Consumes, IsAtEnd}
-use Rattle.pmt_model.specs.declared.event.Event.{Event}
-use Rattle.pmt_model.specs.Values.{Layout}
+use Rattle.pmt_text.specs.Prelude.{Event, Layout}
 use Rattle.pmt_text.specs.declared.piece.Piece.{Piece}
 use Rattle.pmt_text.specs.declared.line_reader.LineReader.{LineReader}
 use Rattle.pmt_text.specs.declared.line_reader.Found.{Found}
 use Rattle.pmt_text.specs.declared.line_reader.Found.TheVariants.{Line, End, More}
 use Rattle.pmt_text.specs.declared.kind.SourceError.{SourceError}
 use Rattle.pmt_text.specs.declared.kind.SourceError.TheVariants.{Text, TooMany, Read, OutOfMemory, Failed}
+use Rattle.pmt_text.specs.OneLine.{IsOneLine}
 use Rattle.pmt_text.specs.Counting.{inner_device}
 use Rattle.pmt_text.specs.Judging.{line_judged}
-use Rattle.pmt_text.specs.OneLine.{IsOneLine}
 
 -- the bytes of a piece that were not taken yet
 abbrev pub unread : Piece → List ℕ

@@ -1,12 +1,8 @@
--- The one text of each trace, and of each script.
-use Rattle.std.specs.Prelude.{ℕ, ◌+◌, ◌/◌, ◌%◌, nat_lt, ◌==◌, if◌then◌else◌, List, [], ◌∷◌, ◌++◌, map, codes}
+-- The one text of each trace and each script, and how its parts are written.
+use Rattle.std.specs.Prelude.{ℕ, ◌+◌, ◌/◌, ◌%◌, nat_lt, ◌==◌, if◌then◌else◌, List, [], ◌∷◌, ◌++◌, map, codes, ◌≡◌, ◌≤◌, length, drop, ◌-◌, ◌*◌, ◌^◌, min}
 use Rattle.std.specs.List.{flat_map, join_with_byte}
 use Rattle.std.specs.Int.Digits.{digits_of}
-use Rattle.pmt_model.specs.declared.event.Op.{Op}
-use Rattle.pmt_model.specs.declared.event.Op.TheVariants.{Store, Clwb, ClflushOpt, Clflush, Sfence, Mfence, IsPersist, IsOrderedBefore}
-use Rattle.pmt_model.specs.declared.event.Event.{Event}
-use Rattle.pmt_model.specs.Values.{Layout}
-use Rattle.pmt_model.specs.Traces.{Recording}
+use Rattle.pmt_text.specs.Prelude.{Op, Store, Clwb, ClflushOpt, Clflush, Sfence, Mfence, IsPersist, IsOrderedBefore, Event, Layout, Recording}
 use Rattle.pmt_text.specs.declared.word.Word.{Word}
 use Rattle.pmt_text.specs.declared.word.Word.TheVariants as words
 
@@ -101,3 +97,18 @@ spelling T = ended (header T.format) ++ flat_map event_text T.events
 -- A script: the lines of its ops in order.
 unfoldable pub script_spelling : List Op → List ℕ
 script_spelling ops = flat_map op_text ops
+
+-- The fields, each behind a space.
+abbrev pub spaced : List (List ℕ) → List ℕ
+spaced fields = flat_map (λ field. 32 ∷ field) fields
+
+-- The field, of at most so many bytes, stands in front of what stood from a place on, and begins at another place.
+pub record Puts (old : List ℕ) (at : ℕ) (field : List ℕ) (most : ℕ) (start : ℕ) (new : List ℕ) : Type 0 where
+  pub put : drop start new ≡ field ++ drop at old
+  pub before : start ≤ at
+  pub few : at ≤ start + most
+  pub long : length new ≡ 128
+
+-- The address of the line's first byte, as far as it has 64 bits.
+abbrev pub line_address : Layout → ℕ → ℕ
+line_address format line = min (line * format.line_size) (2 ^ 64 - 1)

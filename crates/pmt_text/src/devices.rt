@@ -15,7 +15,7 @@ pub struct PieceReader<'a> {
 }
 
 impl<'a> PieceReader<'a> {
-    ghost use Rattle.pmt_text.specs.Devices.{bytes_left};
+    ghost use Rattle.pmt_text.specs.Counting.{bytes_left};
 
     /// Gives the bytes, at most `most` of them at a read.
     pub fn new(bytes: &'a [u8], most: usize) -> Self
@@ -41,7 +41,7 @@ impl<'a> PieceReader<'a> {
 }
 
 impl Read for PieceReader<'_> {
-    ghost use Rattle.pmt_text.specs.Devices.{bytes_left};
+    ghost use Rattle.pmt_text.specs.Counting.{bytes_left};
 
     ghost remaining = { λ r. Some (bytes_left r) };
 
@@ -115,7 +115,7 @@ pub struct LimitedWriter {
 }
 
 impl LimitedWriter {
-    ghost use Rattle.pmt_text.specs.Devices.{bytes_kept};
+    ghost use Rattle.pmt_text.specs.Counting.{bytes_kept};
 
     /// Takes at most `most` bytes at a call.
     pub fn new(alloc: Global, most: usize) -> Self
@@ -156,7 +156,7 @@ impl LimitedWriter {
 }
 
 impl Write for LimitedWriter {
-    ghost use Rattle.pmt_text.specs.Devices.{bytes_kept};
+    ghost use Rattle.pmt_text.specs.Counting.{bytes_kept};
 
     ghost contents = { λ w. Some (bytes_kept w) };
 

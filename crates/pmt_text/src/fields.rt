@@ -1,8 +1,7 @@
 //! The fields of a line.
 ghost use Rattle.std.specs.Prelude.{◌≡◌, ◌∷◌};
 ghost use Rattle.std.specs.Option.{option_map};
-ghost use Rattle.pmt_text.specs.Judging.{fields_of};
-ghost use Rattle.pmt_text.specs.Reading.{fields_left, first_address, first_number, first_span, with_fields};
+ghost use Rattle.pmt_text.specs.Judging.{fields_of, fields_left, first_address, first_number, first_span, with_fields};
 
 use crate::number::{read_address, read_number};
 

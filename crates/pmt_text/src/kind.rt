@@ -1,6 +1,6 @@
 //! Why a text is refused.
 ghost use Rattle.std.specs.Prelude.{◌≡◌};
-ghost use Rattle.pmt_text.specs.Kinds.{name_of};
+ghost use Rattle.pmt_text.specs.Judging.{name_of};
 
 use std::fmt;
 use thiserror::Error;

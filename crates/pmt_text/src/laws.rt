@@ -1,6 +1,6 @@
 //! Theorems about the definitions of texts. Each function does nothing; its contract is the theorem.
 
-ghost use Rattle.pmt_text.specs.TextLaws.{FirstVersionStays, NewWordsAreBad, OneTextOfTrace, OneTraceOfText, ReadIsSpelled, ScriptsAreSpelled, SpelledComesWhole, SpelledIsRead, SpelledIsShort, WithinBound};
+ghost use Rattle.pmt_text.specs.Texts.{FirstVersionStays, NewWordsAreBad, OneTextOfTrace, OneTraceOfText, ReadIsSpelled, ScriptsAreSpelled, SpelledComesWhole, SpelledIsRead, SpelledIsShort, WithinBound};
 
 /// The spelling of each trace is read as the trace.
 pub fn spelled_is_read()

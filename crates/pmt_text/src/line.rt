@@ -1,8 +1,7 @@
 //! Judging one line: its event, or the first check that fails.
 ghost use Rattle.std.specs.Prelude.{◌≡◌, IfOk};
 ghost use Rattle.pmt_model.specs.Traces.{IsEventIn};
-ghost use Rattle.pmt_text.specs.Judging.{line_judged, script_line_judged};
-ghost use Rattle.pmt_text.specs.Reading.{fence_of_fields, fields_left, flushed_of_fields, kind_of as kind_in_text, op_of_fields, span_checked, with_thread};
+ghost use Rattle.pmt_text.specs.Judging.{line_judged, script_line_judged, fence_of_fields, fields_left, flushed_of_fields, kind_of as kind_in_text, op_of_fields, span_checked, with_thread};
 
 use crate::fields::{next_address, next_number, next_span, split_field};
 use crate::kind::TextKind;

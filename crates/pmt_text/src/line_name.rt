@@ -1,6 +1,6 @@
 //! The addresses of lines.
 ghost use Rattle.std.specs.Prelude.{◌≡◌};
-ghost use Rattle.pmt_text.specs.Naming.{line_address as first_address};
+ghost use Rattle.pmt_text.specs.Spelling.{line_address as first_address};
 
 use pmt_model::Format;
 

@@ -4,7 +4,7 @@ ghost use Rattle.pmt_model.specs.Traces.{event_limit};
 ghost use Rattle.pmt_text.specs.Coming.{byte_limit};
 ghost use Rattle.pmt_text.specs.Counting.{inner_device, failure_count};
 ghost use Rattle.pmt_text.specs.OneLine.{IsOneLine};
-ghost use Rattle.pmt_text.specs.Plain.{AreFirstEvents};
+ghost use Rattle.pmt_text.specs.Spelled.{AreFirstEvents};
 ghost use Rattle.pmt_text.specs.Sources.{read_faults};
 
 use crate::counted::Counted;

@@ -1,9 +1,7 @@
 //! The line of an event, spelled from its end to its front: so the digits of a number come in the order in which division gives
 //! them, and what is spelled lies at the end of the buffer.
 ghost use Rattle.std.specs.Prelude.{◌≡◌, ◌∷◌, ◌++◌, ◌+◌, ◌/◌, ◌%◌, ◌^◌, [], ◌≤◌, ◌<◌, length};
-ghost use Rattle.pmt_text.specs.LineTexts.{Puts};
-ghost use Rattle.pmt_text.specs.Spelling.{address, arguments_of, event_text, glyph as glyph_of, hex_bytes, hex_pair, numeral, word_of, word_text};
-ghost use Rattle.pmt_text.specs.Writing.{spaced};
+ghost use Rattle.pmt_text.specs.Spelling.{Puts, address, arguments_of, event_text, glyph as glyph_of, hex_bytes, hex_pair, numeral, word_of, word_text, spaced};
 
 use pmt_model::{Addr, Event, Op, Range};
 

@@ -2,7 +2,7 @@
 ghost use Rattle.std.specs.Prelude.{◌≡◌, ◌≤◌, true, length, Some};
 ghost use Rattle.std.specs.List.{AllByRecursion};
 ghost use Rattle.pmt_model.specs.Traces.{event_limit, IsEventIn};
-ghost use Rattle.pmt_text.specs.TraceFacts.{are_of_format_prop};
+ghost use Rattle.pmt_text.specs.JudgedEvents.{are_of_format_prop};
 
 use crate::kind::SourceError;
 use crate::source::EventSource;
@@ -22,7 +22,7 @@ pub struct ListSource<'a> {
 
 impl<'a> ListSource<'a> {
     ghost use Rattle.pmt_text.specs.declared.source.SourceState.{SourceState};
-    ghost use Rattle.pmt_text.specs.ListSources.{list_coming, list_state, rest_of_trace};
+    ghost use Rattle.pmt_text.specs.Sources.{list_coming, list_state, rest_of_trace};
 
     /// The trace's events, from the first on.
     pub fn new(trace: &'a Trace) -> Self
@@ -39,7 +39,7 @@ impl<'a> ListSource<'a> {
 }
 
 impl EventSource for ListSource<'_> {
-    ghost use Rattle.pmt_text.specs.ListSources.{list_coming, list_state, list_format, list_given, list_room, list_few, list_listed, list_same_format, list_of_format};
+    ghost use Rattle.pmt_text.specs.Sources.{list_coming, list_state, list_format, list_given, list_room, list_few, list_listed, list_same_format, list_of_format};
 
     ghost coming = { list_coming };
 

@@ -1,8 +1,7 @@
 //! Reading numbers, addresses and bytes.
 ghost use Rattle.std.specs.Prelude.{◌≡◌, ◌+◌, ◌*◌, ◌≤◌, length};
 ghost use Rattle.std.specs.Option.{option_map};
-ghost use Rattle.pmt_text.specs.Fields.{number_in, address_in, bytes_in};
-ghost use Rattle.pmt_text.specs.Reading.{capped, digit_of, GivesBytes, IsBase};
+ghost use Rattle.pmt_text.specs.Judging.{number_in, address_in, bytes_in, capped, digit_of, GivesBytes, IsBase};
 
 /// The value of each byte as a digit: 0 to 9, and a to f; 16 for any other byte.
 static DIGITS: [u8; 256] = [

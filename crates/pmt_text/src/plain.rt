@@ -1,7 +1,7 @@
 //! The events of the lines at the front of a text, for as long as each is plain in one pass.
 ghost use Rattle.std.specs.Prelude.{◌≡◌, [], ◌∷◌, ◌++◌, ◌<◌, ◌≤◌, ◌⊎◌, length, IfOk, OnOk};
 ghost use Rattle.pmt_model.specs.Traces.{event_limit};
-ghost use Rattle.pmt_text.specs.Plain.{Adds, AddsFirst, AddsLine, AddsStore, AreFirstEvents};
+ghost use Rattle.pmt_text.specs.Spelled.{Adds, AddsFirst, AddsLine, AddsStore, AreFirstEvents};
 ghost use Rattle.pmt_text.specs.Spelling.{event_text, word_text};
 
 use crate::spelled::{SpelledStore, after_clwb, after_sfence, take_other, take_store, take_word};

@@ -101,7 +101,7 @@ impl<R: Read> TextSource<R> {
 
 impl<R: Read> EventSource for TextSource<R> {
     ghost use Rattle.pmt_text.specs.TextSources.{text_coming, text_state, text_format, text_given, text_room, text_failures, text_lent, text_within, text_few};
-    ghost use Rattle.pmt_text.specs.SourceLaws.{text_listed, text_same_format, text_of_format};
+    ghost use Rattle.pmt_text.specs.TextSources.{text_listed, text_same_format, text_of_format};
 
     ghost coming = { text_coming R.remaining };
 

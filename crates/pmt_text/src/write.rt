@@ -1,6 +1,6 @@
 //! Writing traces and events.
 ghost use Rattle.std.specs.Prelude.{◌≡◌, ◌++◌, ◌∷◌, [], ◌≤◌, length, IfOk, OnOk};
-ghost use Rattle.pmt_text.specs.Reading.{IsBase};
+ghost use Rattle.pmt_text.specs.Judging.{IsBase};
 ghost use Rattle.pmt_text.specs.Spelling.{event_text, header, numeral, spelling};
 
 pub use crate::line_text::LINE_ROOM;

@@ -4,18 +4,14 @@ use Rattle.std.specs.Prelude.{slice_get, ◌↔◌, MatchOption, is_some, unwrap
 use Rattle.std.proofs.lemmas.Bool.{cases_lt, cases_eq, cases_Bool, false≢true}
 use Rattle.std.proofs.lemmas.List.{reverse-append}
 use Rattle.std.proofs.lemmas.Option.{none-some, same_Some}
-use Rattle.pmt_model.specs.Machine.{Stores, Flushes, Clflushes, Fences}
-use Rattle.pmt_model.specs.Traces.{Recording, IsAct}
-use Rattle.pmt_model.specs.Fronts.{front_at}
-use Rattle.pmt_model.specs.Selections.{IsRising, Has}
+use Rattle.pmt_laws.specs.Prelude.{Stores, Flushes, Clflushes, Fences, Recording, IsAct, front_at, IsRising, Has}
 use Rattle.pmt_laws.proofs.Histories.{act-within, act-unique}
 use Rattle.pmt_lines.specs.Jobs.{Raise, RaisesBetween, IsRaises, last_number, IsKind, IsStepOf, Touches, ByFlush, IsWalkFrom, IsJobOf}
 use Rattle.pmt_lines.specs.declared.step.StepKind.{StepKind}
 use Rattle.pmt_lines.specs.declared.step.StepKind.TheVariants.{Store, Flush, Clflush, Fence}
 use Rattle.pmt_lines.specs.declared.step.Step.{Step}
 use Rattle.pmt_trim.specs.Kept as kept
-use Rattle.pmt_trim.specs.Kept.{IsKeptFor, IsLineKept}
-use Rattle.pmt_trim.specs.Backwards.{is_kept, waiting_before, LastIsAt, LastIsElsewhere}
+use Rattle.pmt_trim.specs.Kept.{IsKeptFor, IsLineKept, is_kept, waiting_before, LastIsAt, LastIsElsewhere}
 use Rattle.pmt_trim.proofs.Waiting.{kept-touches, front-stays, Awaits, awaits-unfenced, useful-awaits, awaits-useful}
 use Rattle.pmt_trim.proofs.RaiseLemmas.{raises-before, raises-last, raises-elsewhere}
 

@@ -3,13 +3,7 @@ use Rattle.std.proofs.Common.{◌≡◌, ℕ, zero, suc, ◌+◌, ◌<◌, ◌�
 use Rattle.std.specs.Prelude.{◌↔◌, slice_get, Result, Ok, Err, IfOk}
 use Rattle.std.proofs.Math.Seq.{take-suc}
 use Rattle.std.proofs.lemmas.Bool.{false≢true, cases_lt}
-use Rattle.pmt_model.specs.declared.event.Event.{Event}
-use Rattle.pmt_model.specs.declared.event.Op.{Op}
-use Rattle.pmt_model.specs.declared.event.Op.TheVariants.{Store, Clwb, ClflushOpt, Clflush, Sfence, Mfence, IsPersist, IsOrderedBefore}
-use Rattle.pmt_model.specs.Values.{Layout}
-use Rattle.pmt_model.specs.Machine.{Act, Flushes, Clflushes, Fences}
-use Rattle.pmt_model.specs.Traces.{Recording, act_of, act, IsAct, history, lines_of}
-use Rattle.pmt_model.specs.Selections.{IsRising, Has, always_stays}
+use Rattle.pmt_laws.specs.Prelude.{Event, Op, Store, Clwb, ClflushOpt, Clflush, Sfence, Mfence, IsPersist, IsOrderedBefore, Layout, Act, Flushes, Clflushes, Fences, Recording, act_of, act, IsAct, history, lines_of, IsRising, Has, always_stays}
 use Rattle.pmt_model.specs.Keeping.{IsKept, Stays, ByFence, ByFlush, ByClflush, IsKeep}
 use Rattle.pmt_laws.proofs.Histories.{event-some, act-within}
 use Rattle.pmt_trim.specs.Kept as kept

@@ -1,10 +1,9 @@
 -- The raises of a line, from the last one back.
 use Rattle.std.proofs.Common.{◌≡◌, ◌≢◌, ℕ, suc, ◌<◌, ◌≤◌, ◌⊎◌, inl, inr, List, [], ◌∷◌, ◌++◌, refl, sym, ap, ◌∙◌, arith}
 use Rattle.std.proofs.lemmas.Bool.{cases_lt}
-use Rattle.pmt_model.specs.Traces.{Recording}
-use Rattle.pmt_model.specs.Fronts.{front_at}
+use Rattle.pmt_laws.specs.Prelude.{Recording, front_at}
 use Rattle.pmt_lines.specs.Jobs.{Raise, RaisesBetween}
-use Rattle.pmt_trim.specs.Backwards.{LastIsElsewhere}
+use Rattle.pmt_trim.specs.Kept.{LastIsElsewhere}
 
 -- they lie between two places in order
 raises-order : (T : Recording) (l low high : ℕ) (raises : List Raise) → RaisesBetween T l low high raises → low ≤ high

@@ -2,10 +2,7 @@
 use Rattle.std.proofs.Common.{◌≡◌, ◌≢◌, ℕ, zero, suc, ◌-◌, ◌<◌, ◌≤◌, ◌⊎◌, inl, inr, ◌==◌, None, refl, sym, ap, subst, ◌∙◌, arith}
 use Rattle.std.specs.Prelude.{max, unwrap_or}
 use Rattle.std.proofs.lemmas.Bool.{cases_eq, cases_lt, cond-false, ne_eqb}
-use Rattle.pmt_model.specs.Machine.{Act, Stores, Flushes, Clflushes, Fences, Asserts, count}
-use Rattle.pmt_model.specs.Traces.{Recording, IsAct, history, count_at}
-use Rattle.pmt_model.specs.Fronts.{front, mark, open_mark, front_at}
-use Rattle.pmt_model.specs.Keeping.{IsUsefulFlush}
+use Rattle.pmt_laws.specs.Prelude.{Act, Stores, Flushes, Clflushes, Fences, Asserts, count, Recording, IsAct, history, count_at, front, mark, open_mark, front_at, IsUsefulFlush}
 use Rattle.pmt_laws.proofs.Histories.{history-act, history-step, front-mono}
 use Rattle.pmt_laws.proofs.LastFlushes.{IsLastFlush}
 use Rattle.pmt_laws.proofs.KeepLemmas.{front-at_fence, needed-flush}

@@ -1,7 +1,6 @@
 -- Marks of events.
 use Rattle.std.specs.Prelude.{Bool, true, false}
-use Rattle.pmt_model.specs.declared.event.Op.{Op}
-use Rattle.pmt_model.specs.declared.event.Op.TheVariants.{Store, Clwb, ClflushOpt, Clflush, Sfence, Mfence, IsPersist, IsOrderedBefore}
+use Rattle.pmt_laws.specs.Prelude.{Op, Store, Clwb, ClflushOpt, Clflush, Sfence, Mfence, IsPersist, IsOrderedBefore}
 
 -- A store or an assertion.
 abbrev pub op_stays : Op → Bool

@@ -1,7 +1,6 @@
 //! Joining what is kept of each line with the stores and assertions.
 ghost use Rattle.std.specs.Prelude.{◌≡◌, ℕ, ◌≤◌, map, length, IfOk};
-ghost use Rattle.pmt_model.specs.Selections.{Has};
-ghost use Rattle.pmt_model.specs.Keeping.{IsKeep};
+ghost use Rattle.pmt_laws.specs.Prelude.{Has, IsKeep};
 ghost use Rattle.pmt_tables.specs.Flags.{MarksThese};
 ghost use Rattle.pmt_trim.specs.Kept.{AreAllKept};
 ghost use Rattle.pmt_trim.specs.Marking.{op_stays};

@@ -1,7 +1,6 @@
 //! What is kept of one line.
 ghost use Rattle.std.specs.Prelude.{◌≡◌, ◌<◌, reverse, IfOk, MatchOption};
-ghost use Rattle.pmt_trim.specs.Kept.{IsJobKept};
-ghost use Rattle.pmt_trim.specs.Backwards.{is_kept, waiting_before, LastIsAt, LastIsElsewhere};
+ghost use Rattle.pmt_trim.specs.Kept.{IsJobKept, is_kept, waiting_before, LastIsAt, LastIsElsewhere};
 
 use pmt_lines::{LineResult, StepKind};
 use pmt_model::OutOfMemory;

@@ -2,15 +2,12 @@
 use Rattle.std.proofs.Common.{◌≡◌, ℕ, zero, suc, ◌<◌, ◌≤◌, Bool, true, false, List, [], ◌∷◌, length, get_or, Result, Ok, Err, refl, sym, ap, subst, ◌∙◌, arith}
 use Rattle.std.specs.Prelude.{◌↔◌, IfOk}
 use Rattle.std.proofs.lemmas.Bool.{false≢true}
-use Rattle.pmt_model.specs.declared.event.Event.{Event}
-use Rattle.pmt_model.specs.Traces.{Recording, VectorsAt}
-use Rattle.pmt_model.specs.Selections.{IsRising, Has, IsSelection, cut, matching_place}
-use Rattle.pmt_model.specs.Shortest.{HasSameVectors}
+use Rattle.pmt_laws.specs.Prelude.{Event, Recording, VectorsAt, IsRising, Has, IsSelection, cut, matching_place, HasSameVectors}
 use Rattle.pmt_laws.proofs.Histories.{act-within}
 use Rattle.pmt_laws.proofs.CutLemmas.{place-low, place-kept}
 use Rattle.pmt_laws.proofs.WholeSelections.{cut-whole}
 use Rattle.pmt_tables.specs.Flags.{is_kept_at}
-use Rattle.pmt_trimming.specs.AllEvents.{all_marks}
+use Rattle.pmt_trimming.specs.Passing.{all_marks}
 
 -- the marks are those of the events' numbers
 marked-at : (events : List Event) (i : ℕ) → i < length events → get_or (all_marks events) i false ≡ true

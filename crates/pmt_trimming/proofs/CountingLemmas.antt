@@ -2,18 +2,14 @@
 use Rattle.std.proofs.Common.{◌≡◌, ◌≢◌, ℕ, zero, suc, ◌+◌, ◌-◌, ◌<◌, ◌≤◌, ◌⊎◌, inl, inr, max, Bool, true, false, List, [], ◌∷◌, ◌==◌, length, refl, sym, ap, ◌∙◌, subst, arith, le_antisymm, eqb-true, true≢false}
 use Rattle.std.proofs.lemmas.Bool.{eqb-false, cases_lt}
 use Rattle.std.specs.Prelude.{not}
-use Rattle.pmt_model.specs.Machine.{Act, Stores, Flushes, Clflushes, Fences, Asserts}
-use Rattle.pmt_model.specs.Traces.{Recording, IsAct, history, has_line, lines_of, count_at}
-use Rattle.pmt_model.specs.Fronts.{front, mark, front_at}
-use Rattle.pmt_model.specs.Selections.{Has, always_stays}
-use Rattle.pmt_model.specs.Keeping.{IsUsefulFlush, IsKept}
+use Rattle.pmt_laws.specs.Prelude.{Act, Stores, Flushes, Clflushes, Fences, Asserts, Recording, IsAct, history, has_line, lines_of, count_at, front, mark, front_at, Has, always_stays, IsUsefulFlush, IsKept}
 use Rattle.pmt_model.specs.Keeping.IsKept.{Stays, ByFence, ByFlush, ByClflush}
 use Rattle.pmt_laws.proofs.Histories.{act-unique, act-within, history-act, history-step, length-history, front-mono}
 use Rattle.pmt_laws.proofs.KeepLemmas.{front-at_fence, raising-is-kept}
 use Rattle.pmt_laws.proofs.LastFlushes.{IsLastFlush, last-flush}
 use Rattle.pmt_laws.proofs.ShortestPairs.{not_later}
 use Rattle.pmt_taking.proofs.AppearLemmas.{IsOnLine, appears}
-use Rattle.pmt_trimming.specs.Counting.{raised, counts, all_counts, kept_count, KeepIsCounted}
+use Rattle.pmt_trimming.specs.Passing.{raised, counts, all_counts, kept_count, KeepIsCounted}
 use Rattle.pmt_trimming.proofs.Listings.{Distinct, Listing, rising-distinct, same-size, none-listed, one-listed, both-listed, listed-as, lines-distinct, distinct-filter, filter-keeps, filter-has, has-from_line}
 
 -- Event k is kept for event j: for itself, or it is a flush that fence j needs.

@@ -1,18 +1,11 @@
 -- What a pass does at a fence.
 use Rattle.std.proofs.Common.{◌≡◌, ◌≢◌, ℕ, zero, suc, ◌+◌, ◌-◌, ◌<◌, ◌≤◌, ◌⊎◌, inl, inr, Bool, false, List, [], ◌∷◌, ◌++◌, length, max, get_or, set, map, take, drop, Some, refl, sym, ap, subst, ◌∙◌, arith}
 use Rattle.std.specs.Prelude.{◌↔◌, ◌||◌, nat_lt, slice_get, All}
-use Rattle.std.specs.List.{AllByRecursion}
 use Rattle.std.proofs.lemmas.Bool.{cases_eq, cases_lt, lt-ltb, ltb-true}
 use Rattle.std.proofs.lemmas.List.{get_or-map, length-map, map-append, drop_all, take_all, take-append-drop}
 use Rattle.std.proofs.lemmas.Option.{same_Some}
 use Rattle.std.proofs.Math.Seq.{take-suc}
-use Rattle.pmt_model.specs.declared.event.Event.{Event}
-use Rattle.pmt_model.specs.Machine.{Flushes, Fences}
-use Rattle.pmt_model.specs.Findings.{last_flush}
-use Rattle.pmt_model.specs.Traces.{Recording, act, IsAct, history, lines_of}
-use Rattle.pmt_model.specs.Pushing.{with_event}
-use Rattle.pmt_model.specs.Selections.{Has}
-use Rattle.pmt_model.specs.Keeping.{IsKept}
+use Rattle.pmt_laws.specs.Prelude.{Event, Flushes, Fences, last_flush, Recording, act, IsAct, history, lines_of, with_event, Has, IsKept, AllByRecursion}
 use Rattle.pmt_laws.specs.Passing.{IsOpenFlush, IsDecided, Flushed, open_flushes}
 use Rattle.pmt_laws.proofs.Histories.{act-within, act-unique}
 use Rattle.pmt_laws.proofs.PassLemmas as laws
@@ -20,18 +13,15 @@ use Rattle.pmt_laws.proofs.PassLemmas.{IsOpenOf, are_open}
 use Rattle.pmt_safety.specs.Safety.{last_line_store, safe_store, safe_store_at}
 use Rattle.pmt_rows.specs.declared.rows.Rows.{Rows}
 use Rattle.pmt_rows.specs.declared.open.OpenFlush.{OpenFlush}
-use Rattle.pmt_rows.specs.Linked.{raised}
-use Rattle.pmt_rows.specs.Known.{IsKnownWith}
-use Rattle.pmt_rows.specs.Waiting.{Waiting, list_at, waiting, waits, raise_all}
-use Rattle.pmt_rows.specs.Fencing.{some_raises, waits_all}
+use Rattle.pmt_rows.specs.Known.{raised, IsKnownWith}
+use Rattle.pmt_rows.specs.Waiting.{Waiting, list_at, waiting, waits, raise_all, some_raises, waits_all}
 use Rattle.pmt_rows.proofs.FencingLemmas.{line_in, from-before, raising-next}
 use Rattle.pmt_rows.proofs.KeepingLemmas.{open-numbers, kept_by_raise, fence_kept_by_raise, fenced-known}
 use Rattle.pmt_rows.proofs.OpenLemmas.{waits-on}
 use Rattle.pmt_trimming.specs.declared.pass.Mark.{Mark}
 use Rattle.pmt_trimming.specs.declared.pass.Mark.TheVariants as marks
 use Rattle.pmt_trimming.specs.declared.pass.Pass.{Pass}
-use Rattle.pmt_trimming.specs.Passing.{AreLines, TellsMark, mark_from, IsPassOf}
-use Rattle.pmt_trimming.specs.Fencing.{number_of, AreMarksBut, AreAtFence, ArePastFence}
+use Rattle.pmt_trimming.specs.Passing.{AreLines, TellsMark, mark_from, IsPassOf, number_of, AreMarksBut, AreAtFence, ArePastFence}
 use Rattle.pmt_trimming.proofs.PassingLemmas.{last-act, length-last, history-same, tells-more, tells-from}
 
 -- ---- The flushes of a pass are open

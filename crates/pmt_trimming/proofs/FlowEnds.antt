@@ -2,14 +2,10 @@
 use Rattle.std.proofs.Common.{◌≡◌, ◌≢◌, ℕ, ◌+◌, ◌<◌, ◌^◌, inl, inr, ⊎_elim, List, [], ◌∷◌, ◌++◌, length, take, Option, Some, None, Result, Ok, Err, refl, sym, ap, ◌∙◌, subst, arith, length-append}
 use Rattle.std.specs.Prelude.{IfSome}
 use Rattle.std.proofs.lemmas.List.{take_all}
-use Rattle.std.specs.List.{AllByRecursion}
 use Rattle.std.proofs.Math.Seq.{take-append-add}
 use Rattle.std.specs.Io.KnownBytes.{Keeps, Appends}
 use Rattle.std.proofs.KnownBytes.{Appends-kept, Appends-trans}
-use Rattle.pmt_model.specs.declared.event.Event.{Event}
-use Rattle.pmt_model.specs.Values.{Layout}
-use Rattle.pmt_model.specs.Traces.{Recording, IsTrace, IsEventIn}
-use Rattle.pmt_model.specs.Pushing.{empty, with_event}
+use Rattle.pmt_laws.specs.Prelude.{Event, Layout, Recording, IsTrace, IsEventIn, empty, with_event, AllByRecursion}
 use Rattle.pmt_text.specs.declared.kind.SourceError.{SourceError}
 use Rattle.pmt_text.specs.declared.kind.SourceError.TheVariants as sources
 use Rattle.pmt_text.specs.declared.source.SourceState.{SourceState}
@@ -17,13 +13,12 @@ use Rattle.pmt_text.specs.declared.source.SourceState.TheVariants as states
 use Rattle.pmt_text.specs.Coming.{Coming, ComesWhole}
 use Rattle.pmt_text.specs.Sources.{Gives, IsOver, Faults, HasFormat, TellsNext, KeepsFormat, IsGivenIn, IsOfLaterLine, CountsReads}
 use Rattle.pmt_text.proofs.SourceLemmas.{Gives-trans, Gives-over}
-use Rattle.pmt_taking.specs.Blocks.{Shown}
+use Rattle.pmt_taking.specs.Sourcing.{Shown}
 use Rattle.pmt_taking.proofs.SourceRunLemmas.{SoFar, SameReads}
 use Rattle.pmt_trimming.specs.declared.stream.Stream.{Stream}
 use Rattle.pmt_trimming.specs.declared.stream_error.StreamError.{StreamError}
 use Rattle.pmt_trimming.specs.declared.stream_error.StreamError.TheVariants.{Source, OutOfMemory, Write}
-use Rattle.pmt_trimming.specs.Streaming.{IsOut, ComesFirst, ComesBefore, AreGiven, AreTaken, SourceRun, CameFirst, WritesFirst, Streams, TellsStream, CountsStream}
-use Rattle.pmt_trimming.specs.Leaving.{IsSoFar, IsStreamOf, WritesPiece, WritesRest, Closes}
+use Rattle.pmt_trimming.specs.Streaming.{IsOut, ComesFirst, ComesBefore, AreGiven, AreTaken, SourceRun, CameFirst, WritesFirst, Streams, TellsStream, CountsStream, IsSoFar, IsStreamOf, WritesPiece, WritesRest, Closes}
 use Rattle.pmt_trimming.proofs.FlowLemmas.{out-short}
 
 -- what the source showed at first, as far as it matters later

@@ -1,20 +1,17 @@
 -- What a stream tells, by the calls that it made.
 use Rattle.std.proofs.Common.{◌≡◌, ℕ, ◌+◌, ◌^◌, ◌<◌, ◌≤◌, inl, inr, ⊎_elim, List, [], ◌∷◌, ◌++◌, length, take, Option, Result, Ok, Err, refl, sym, ap, ◌∙◌, subst, arith, length-append}
-use Rattle.std.specs.List.{AllByRecursion}
 use Rattle.std.proofs.lemmas.List.{take_all}
 use Rattle.std.specs.Io.KnownBytes.{Keeps, Appends}
 use Rattle.std.proofs.KnownBytes.{Appends-kept}
-use Rattle.pmt_model.specs.Traces.{Recording, IsTrace}
-use Rattle.pmt_model.specs.Selections.{Has, cut}
+use Rattle.pmt_laws.specs.Prelude.{Recording, IsTrace, Has, cut, AllByRecursion}
 use Rattle.pmt_model.proofs.SelectLemmas.{cut-is-trace}
 use Rattle.pmt_text.specs.Spelling.{spelling}
 use Rattle.pmt_text.proofs.BoundLemmas.{spelled_is_short}
-use Rattle.pmt_text.specs.TextLaws.{longest_text}
+use Rattle.pmt_text.specs.Texts.{longest_text}
 use Rattle.pmt_trimming.specs.declared.stream.Stream.{Stream}
 use Rattle.pmt_trimming.specs.declared.stream_error.StreamError.{StreamError}
 use Rattle.pmt_trimming.specs.declared.stream_error.StreamError.TheVariants.{Source, OutOfMemory, Write}
-use Rattle.pmt_trimming.specs.Streaming.{IsOut, IsTextOfTrimmed}
-use Rattle.pmt_trimming.specs.Leaving.{IsSoFar, WritesPiece, WritesRest, Closes}
+use Rattle.pmt_trimming.specs.Streaming.{IsOut, IsTextOfTrimmed, IsSoFar, WritesPiece, WritesRest, Closes}
 use Rattle.pmt_trimming.proofs.StreamLemmas.{kept-within}
 
 -- ---- The text is short

@@ -1,8 +1,6 @@
 -- The trace cut to what is kept is trimmed.
 use Rattle.std.proofs.Common.{◌≡◌, ℕ, zero, suc, List, refl, sym, ap, ◌∙◌, subst, arith}
-use Rattle.pmt_model.specs.Traces.{Recording, event}
-use Rattle.pmt_model.specs.Selections.{Has, IsSelection, cut, matching_place}
-use Rattle.pmt_model.specs.Keeping.{IsKeep}
+use Rattle.pmt_laws.specs.Prelude.{Recording, event, Has, IsSelection, cut, matching_place, IsKeep, HasSameVectors}
 use Rattle.pmt_laws.proofs.BoxLemmas.{vectors_are_a_box}
 use Rattle.pmt_laws.proofs.Histories.{event-some}
 use Rattle.pmt_laws.proofs.CutLemmas.{has-above, place-kept, cut-event}
@@ -12,7 +10,6 @@ use Rattle.pmt_laws.proofs.StayLemmas.{verdicts_stay, never_persisted_stays}
 use Rattle.pmt_laws.proofs.ShortestLemmas.{keep_shortest}
 use Rattle.pmt_laws.proofs.NoWaste.{no_waste}
 use Rattle.pmt_laws.proofs.WholeSelections.{trimmed_same}
-use Rattle.pmt_model.specs.Shortest.{HasSameVectors}
 use Rattle.pmt_trimming.specs.Headline.{IsTrimmed}
 
 -- a selected event stands at its matching place

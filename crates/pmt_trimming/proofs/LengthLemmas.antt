@@ -2,7 +2,6 @@
 use Rattle.std.proofs.Common.{◌≡◌, ℕ, zero, suc, ◌+◌, ◌-◌, ◌*◌, ◌/◌, ◌%◌, ◌^◌, ◌<◌, ◌≤◌, ◌⊎◌, inl, inr, List, [], ◌∷◌, ◌++◌, length, sum, refl, sym, ap, ap₂, ◌∙◌, subst, arith, pow-suc, length-append, append_assoc, append-nil, map, take, get_or}
 use mir.Val.{bool_byte}
 use Rattle.std.specs.Prelude.{nat_le}
-use Rattle.std.specs.List.{flat_map}
 use Rattle.std.specs.Int.Count.{count_leading_zeros}
 use Rattle.std.proofs.lemmas.List.{map-append, take_more}
 use Rattle.std.proofs.lemmas.List.Sums.{sum_by-cons}
@@ -11,13 +10,9 @@ use Rattle.std.proofs.Math.Nat.{pow-le-pow_right, one-le-pow}
 use Rattle.std.specs.Int.Bits.{bit_or, or_zero_r}
 use Rattle.std.proofs.lemmas.Bool.{cases_lt, le-leb, lt-leb}
 use Rattle.std.proofs.lemmas.Nat.{leading_top, le_or_l, le_or_r, or_lt, or_shr, pow-add}
-use Rattle.pmt_model.specs.declared.event.Op.{Op}
-use Rattle.pmt_model.specs.declared.event.Op.TheVariants.{Store}
-use Rattle.pmt_model.specs.declared.event.Event.{Event}
-use Rattle.pmt_model.specs.Values.{Written}
-use Rattle.pmt_text.specs.Reading.{IsBase}
-use Rattle.pmt_text.specs.Spelling.{address, arguments_of, event_text, glyph, hex_bytes, numeral, word_of, word_text}
-use Rattle.pmt_text.specs.Writing.{spaced}
+use Rattle.pmt_laws.specs.Prelude.{Op, Store, Event, Written, flat_map}
+use Rattle.pmt_text.specs.Judging.{IsBase}
+use Rattle.pmt_text.specs.Spelling.{address, arguments_of, event_text, glyph, hex_bytes, numeral, word_of, word_text, spaced}
 use Rattle.pmt_text.proofs.LineWriting.{event_text-parts}
 use Rattle.pmt_text.proofs.NumberWriting.{numeral-step, numeral-digit}
 use Rattle.pmt_trimming.specs.LineQueues.{cut_by}

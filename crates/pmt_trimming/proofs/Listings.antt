@@ -2,11 +2,7 @@
 use Rattle.std.proofs.Common.{◌≡◌, ℕ, ◌+◌, ◌<◌, ◌≤◌, ◌⊎◌, inl, inr, Bool, true, false, List, [], ◌∷◌, ◌++◌, length, refl, sym, ap, ◌∙◌, subst, arith, length-append, eqb-true}
 use Rattle.std.proofs.lemmas.Bool.{true≢false, eqb-false}
 use Rattle.std.specs.Prelude.{◌==◌, ◌||◌, if◌then◌else◌}
-use Rattle.std.specs.List.{filter}
-use Rattle.pmt_model.specs.Selections.{IsRising, Has}
-use Rattle.pmt_model.specs.Keeping.{without}
-use Rattle.pmt_model.specs.Traces.{has_line, with_line, lines_of}
-use Rattle.pmt_model.specs.Machine.{Act, Stores, Flushes, Clflushes, Fences, Asserts}
+use Rattle.pmt_laws.specs.Prelude.{IsRising, Has, without, has_line, with_line, lines_of, Act, Stores, Flushes, Clflushes, Fences, Asserts, filter}
 use Rattle.pmt_laws.proofs.CutLemmas.{has-above}
 use Rattle.pmt_laws.proofs.Pigeonhole.{has-without, length-without_member}
 

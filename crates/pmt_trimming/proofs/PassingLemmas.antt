@@ -4,12 +4,7 @@ use Rattle.std.specs.Prelude.{◌↔◌, slice_get, nat_lt}
 use Rattle.std.proofs.lemmas.Bool.{cases_lt, true≢false, lt-ltb, ltb-true}
 use Rattle.std.proofs.lemmas.List.{length-append}
 use Rattle.std.proofs.lemmas.Option.{same_Some}
-use Rattle.pmt_model.specs.declared.event.Event.{Event}
-use Rattle.pmt_model.specs.Machine.{Act, Flushes, Clflushes, Fences, Asserts}
-use Rattle.pmt_model.specs.Traces.{Recording, act, IsAct, history, lines_of}
-use Rattle.pmt_model.specs.Pushing.{with_event}
-use Rattle.pmt_model.specs.Selections.{always_stays}
-use Rattle.pmt_model.specs.Keeping.{IsKept, Stays}
+use Rattle.pmt_laws.specs.Prelude.{Event, Act, Flushes, Clflushes, Fences, Asserts, Recording, act, IsAct, history, lines_of, with_event, always_stays, IsKept, Stays}
 use Rattle.pmt_laws.specs.Passing.{IsOpenFlush, IsDecided}
 use Rattle.pmt_laws.proofs.Histories.{act-within, act-unique, history-act}
 use Rattle.pmt_laws.proofs.DecidedLemmas.{decided_stays, act-more, act-less, history-more}

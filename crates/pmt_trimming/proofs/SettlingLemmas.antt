@@ -4,8 +4,7 @@ use Rattle.std.specs.Prelude.{◌↔◌, slice_get}
 use Rattle.std.proofs.lemmas.Bool.{cases_lt, true≢false}
 use Rattle.std.proofs.lemmas.List.{length-map, length-drop}
 use Rattle.std.proofs.lemmas.Option.{same_Some, none-some}
-use Rattle.pmt_model.specs.Machine.{Flushes, Clflushes, Fences}
-use Rattle.pmt_model.specs.Traces.{Recording}
+use Rattle.pmt_laws.specs.Prelude.{Flushes, Clflushes, Fences, Recording}
 use Rattle.pmt_model.specs.Keeping.{IsKept, Stays, ByFence, ByFlush, ByClflush}
 use Rattle.pmt_laws.specs.Passing.{IsDecided, IsOpenFlush}
 use Rattle.pmt_laws.proofs.Histories.{act-within}

@@ -1,17 +1,11 @@
 -- What leaves a stream, event by event.
 use Rattle.std.proofs.Common.{◌≡◌, ℕ, zero, suc, ◌+◌, ◌-◌, ◌<◌, ◌≤◌, ◌⊎◌, inl, inr, Bool, true, false, List, [], ◌∷◌, ◌++◌, length, drop, map, Option, Some, None, Ok, Bor, refl, sym, ap, ap₂, ◌∙◌, subst, arith, append_assoc, append-nil, filter_map, get_or, length-drop}
 use Rattle.std.specs.Prelude.{◌↔◌, slice_get, IfSome}
-use Rattle.std.specs.List.{flat_map}
 use Rattle.std.proofs.lemmas.Bool.{cases_lt, cases_eq, false≢true}
 use Rattle.std.proofs.lemmas.List.{drop-append-le, map-append}
 use Rattle.std.proofs.lemmas.List.Elements.{filter_map-append}
 use Rattle.std.proofs.lemmas.Grind.{flat_map-append}
-use Rattle.pmt_model.specs.declared.event.Event.{Event}
-use Rattle.pmt_model.specs.Values.{Layout}
-use Rattle.pmt_model.specs.Machine.{Flushes, Clflushes, Fences}
-use Rattle.pmt_model.specs.Traces.{Recording, event}
-use Rattle.pmt_model.specs.Pushing.{empty, with_event, with_events}
-use Rattle.pmt_model.specs.Selections.{IsRising, Has, cut}
+use Rattle.pmt_laws.specs.Prelude.{Event, Layout, Flushes, Clflushes, Fences, Recording, event, empty, with_event, with_events, IsRising, Has, cut, flat_map}
 use Rattle.pmt_model.specs.Keeping.{IsKept, Stays, ByFence, ByFlush, ByClflush, IsKeep}
 use Rattle.pmt_text.specs.Spelling.{event_text, header, ended, spelling}
 use Rattle.pmt_text.specs.Sources.{Lends}
@@ -20,11 +14,10 @@ use Rattle.pmt_laws.proofs.DecidedLemmas.{event-more, decided_stays, decided_or_
 use Rattle.pmt_laws.proofs.Histories.{act-within}
 use Rattle.pmt_laws.proofs.CutLemmas.{has-above}
 use Rattle.pmt_trimming.specs.Passing.{AreFlags, Settles}
-use Rattle.pmt_trimming.specs.Streaming.{IsBeforeOpen, IsOut, OutComesFirst, IsTextOfTrimmed}
+use Rattle.pmt_trimming.specs.Streaming.{IsBeforeOpen, IsOut, OutComesFirst, IsTextOfTrimmed, EndsWithKept, HaveLeft, IsStreamOf, kept_line, kept_lines}
 use Rattle.pmt_trimming.specs.declared.pass.Mark.{Mark}
 use Rattle.pmt_trimming.specs.declared.pass.Pass.{Pass}
 use Rattle.pmt_trimming.specs.declared.stream.Stream.{Stream}
-use Rattle.pmt_trimming.specs.Leaving.{EndsWithKept, HaveLeft, IsStreamOf, kept_line, kept_lines}
 use Rattle.pmt_trimming.specs.LineQueues.{kept_text, kept_texts, Pops}
 use Rattle.pmt_trimming.proofs.HeadlineLemmas.{keep-is-trimmed}
 use Rattle.pmt_tables.specs.Flags.{marked_from}

@@ -4,12 +4,7 @@ use Rattle.std.specs.Prelude.{◌↔◌, slice_get}
 use Rattle.std.proofs.lemmas.Bool.{false≢true}
 use Rattle.std.proofs.lemmas.List.{take_more, take_all}
 use Rattle.std.proofs.lemmas.Option.{same_Some}
-use Rattle.std.specs.List.{AllByRecursion}
-use Rattle.pmt_model.specs.declared.event.Event.{Event}
-use Rattle.pmt_model.specs.Traces.{Recording}
-use Rattle.pmt_model.specs.Pushing.{with_event, with_events}
-use Rattle.pmt_model.specs.Selections.{IsRising, Has, IsSelection}
-use Rattle.pmt_model.specs.Keeping.{IsKept, IsKeep}
+use Rattle.pmt_laws.specs.Prelude.{Event, Recording, with_event, with_events, IsRising, Has, IsSelection, IsKept, IsKeep, AllByRecursion}
 use Rattle.pmt_tables.specs.Flags.{is_kept_at}
 use Rattle.pmt_trimming.specs.Passing.{AreFlags}
 use Rattle.pmt_trimming.proofs.SettlingLemmas.{kept-some}

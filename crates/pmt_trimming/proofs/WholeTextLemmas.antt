@@ -3,9 +3,7 @@ use Rattle.std.proofs.Common.{◌≡◌, ◌≢◌, ℕ, suc, ◌+◌, ◌<◌, 
 use Rattle.std.specs.Prelude.{IfErr, IfSome}
 use Rattle.std.proofs.lemmas.Bool.{cases_lt}
 use Rattle.std.proofs.lemmas.Option.{slice_get-get_or}
-use Rattle.pmt_model.specs.declared.event.Event.{Event}
-use Rattle.pmt_model.specs.Traces.{Recording}
-use Rattle.pmt_model.specs.Pushing.{empty, with_events}
+use Rattle.pmt_laws.specs.Prelude.{Event, Recording, empty, with_events}
 use Rattle.pmt_laws.specs.Passing.{IsDecided}
 use Rattle.pmt_text.specs.declared.kind.SourceError.{SourceError}
 use Rattle.pmt_text.specs.declared.kind.SourceError.TheVariants.{Text, TooMany, Read, OutOfMemory, Failed}
@@ -15,14 +13,12 @@ use Rattle.pmt_text.specs.Coming.{Coming}
 use Rattle.pmt_text.specs.Sources.{Gives, HasFormat, IsOver, Faults, CountsReads, TakesReady}
 use Rattle.pmt_taking.specs.declared.taking.TakeError.{TakeError}
 use Rattle.pmt_taking.specs.declared.taking.TakeError.TheVariants as refusals
-use Rattle.pmt_taking.specs.Sourcing.{IsFaultOf, TellsNothing, TellsTaken, told_by}
+use Rattle.pmt_taking.specs.Sourcing.{IsFaultOf, TellsNothing, TellsTaken, told_by, Shown}
 use Rattle.pmt_text.proofs.SourceLemmas.{Gives-trans}
-use Rattle.pmt_taking.specs.Blocks.{Shown}
 use Rattle.pmt_taking.proofs.SourceRunLemmas.{SameReads, SoFar}
-use Rattle.pmt_trimming.specs.Streaming.{IsTextOfTrimmed}
+use Rattle.pmt_trimming.specs.Streaming.{IsTextOfTrimmed, HasLeftTo, IsHeldAt, IsTextOfWhole}
 use Rattle.pmt_trimming.specs.LineQueues.{Queued, Pops}
 use Rattle.pmt_trimming.specs.Passing.{AreDecidedFrom, AreMarks, Settles, decision_by}
-use Rattle.pmt_trimming.specs.WholeTexts.{HasLeftTo, IsHeldAt, IsTextOfWhole}
 use Rattle.pmt_trimming.specs.declared.pass.Mark.{Mark}
 use Rattle.pmt_trimming.proofs.FlowEnds.{comes-over}
 use Rattle.pmt_trimming.proofs.SettlingLemmas.{decided-first}

@@ -1,13 +1,6 @@
 -- What a trimmed trace is: the whole promise, field by field.
 use Rattle.std.specs.Prelude.{◌≡◌, ℕ, ◌≤◌, ◌↔◌, false, List, length}
-use Rattle.pmt_model.specs.Values.{Written, Span}
-use Rattle.pmt_model.specs.Machine.{Act, Stores}
-use Rattle.pmt_model.specs.Traces.{Recording, event, IsAct, history}
-use Rattle.pmt_model.specs.Selections.{Has, always_stays, IsSelection, cut, matching_place, IsFaithful}
-use Rattle.pmt_model.specs.Keeping.{IsKeep, without}
-use Rattle.pmt_model.specs.Assertions.{PersistPasses, OrderedPasses}
-use Rattle.pmt_model.specs.Findings.{IsNeverPersisted}
-use Rattle.pmt_model.specs.Shortest.{HasSameVectors, HasNoWaste}
+use Rattle.pmt_laws.specs.Prelude.{Written, Span, Act, Stores, Recording, event, IsAct, history, Has, always_stays, IsSelection, cut, matching_place, IsFaithful, IsKeep, without, PersistPasses, OrderedPasses, IsNeverPersisted, HasSameVectors, HasNoWaste}
 
 -- No selection of the trace with the same counts of persisted stores at every place has fewer events than K.
 abbrev pub IsShortest : Recording → List ℕ → Type 0

@@ -1,10 +1,4 @@
 pub mod Headline
-pub mod AllEvents
-pub mod MarkRows
 pub mod Passing
-pub mod Fencing
-pub mod Streaming
 pub mod LineQueues
-pub mod Leaving
-pub mod WholeTexts
-pub mod Counting
+pub mod Streaming

@@ -1,5 +1,6 @@
--- A text and lines after it, that lie in a row, and what leaves the front of the lines.
+-- Lines, or marks, that lie in a row, and what leaves the front of the lines.
 use Rattle.std.specs.Prelude.{◌≡◌, ℕ, ◌+◌, ◌-◌, ◌<◌, ◌≤◌, ◌⊎◌, Bool, true, false, List, [], ◌∷◌, ◌++◌, length, take, drop, sum}
+use Rattle.pmt_trimming.specs.declared.pass.Mark.{Mark}
 
 -- These bytes, cut into lines of these lengths.
 abbrev pub cut_by : List ℕ → List ℕ → List (List ℕ)
@@ -54,3 +55,7 @@ pub record AreHeld (end from at left : ℕ) (lengths bytes : List ℕ) : Type 0 
   pub run : IsRun end from at
   pub some : left ≤ length lengths
   pub cut : AreCut (drop left lengths) at bytes
+
+-- The marks of events, the oldest first.
+pub record MarkRow : Type 0 where
+  pub items : List Mark

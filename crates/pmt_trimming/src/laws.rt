@@ -1,10 +1,8 @@
 //! What the kept events of a trace are good for.
 
 ghost use Rattle.std.specs.Prelude.{ℕ, List};
-ghost use Rattle.pmt_model.specs.Traces.{Recording};
-ghost use Rattle.pmt_model.specs.Selections.{cut};
-ghost use Rattle.pmt_model.specs.Keeping.{IsKeep};
-ghost use Rattle.pmt_trimming.specs.Counting.{KeepIsCounted};
+ghost use Rattle.pmt_laws.specs.Prelude.{Recording, cut, IsKeep};
+ghost use Rattle.pmt_trimming.specs.Passing.{KeepIsCounted};
 ghost use Rattle.pmt_trimming.specs.Headline.{IsTrimmed};
 
 /// A trace that is cut to its kept events is trimmed.

@@ -1,7 +1,6 @@
 //! How long the line of an event is, without its text.
 ghost use Rattle.std.specs.Prelude.{◌≡◌, ◌+◌, ◌∷◌, [], ◌<◌, ◌≤◌, length};
-ghost use Rattle.pmt_text.specs.Spelling.{address, arguments_of, event_text, numeral, word_of, word_text};
-ghost use Rattle.pmt_text.specs.Writing.{spaced};
+ghost use Rattle.pmt_text.specs.Spelling.{address, arguments_of, event_text, numeral, word_of, word_text, spaced};
 
 use pmt_model::{Addr, Event, Op, Range};
 

@@ -18,7 +18,7 @@ pub(crate) struct Marks {
 
 impl Model for Marks {
     ghost use Rattle.std.specs.Prelude.{length, drop, ◌≤◌};
-    ghost use Rattle.pmt_trimming.specs.MarkRows.{MarkRow};
+    ghost use Rattle.pmt_trimming.specs.LineQueues.{MarkRow};
 
     ghost Value = { MarkRow };
 

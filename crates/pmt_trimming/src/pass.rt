@@ -1,13 +1,8 @@
 //! The pass forward over the events of a trace, which decides what is kept.
 
 ghost use Rattle.std.specs.Prelude.{◌≡◌, ℕ, suc, ◌+◌, ◌<◌, ◌≤◌, List, [], length, map, IfOk, OnOk};
-ghost use Rattle.pmt_model.specs.Machine.{Stores, Flushes, Clflushes, Fences};
-ghost use Rattle.pmt_model.specs.Pushing.{empty, with_event};
-ghost use Rattle.pmt_model.specs.Traces.{Recording, act, event_limit};
-ghost use Rattle.pmt_model.specs.Values.{Written};
-ghost use Rattle.pmt_model.specs.declared.event.Event.{Event};
-ghost use Rattle.pmt_trimming.specs.Passing.{AreDecidedFrom, HasJudged, IsPassOf, IsPassing, taken, Settles, AreFlags, mark_from, decision_by, flag_by};
-ghost use Rattle.pmt_trimming.specs.Fencing.{AreAtFence, ArePastFence};
+ghost use Rattle.pmt_laws.specs.Prelude.{Stores, Flushes, Clflushes, Fences, empty, with_event, Recording, act, event_limit, Written, Event};
+ghost use Rattle.pmt_trimming.specs.Passing.{AreDecidedFrom, HasJudged, IsPassOf, IsPassing, taken, Settles, AreFlags, mark_from, decision_by, flag_by, AreAtFence, ArePastFence};
 
 use crate::marks::Marks;
 use pmt_model::{Event, Format, Op, OutOfMemory, line_of};

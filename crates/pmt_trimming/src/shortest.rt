@@ -1,10 +1,9 @@
 //! The length of a selection, apart from which events it has.
 
 ghost use Rattle.std.specs.Prelude.{◌≡◌, IfOk};
-ghost use Rattle.pmt_model.specs.Selections.{IsSelection, cut};
-ghost use Rattle.pmt_model.specs.Shortest.{HasSameVectors};
+ghost use Rattle.pmt_laws.specs.Prelude.{IsSelection, cut, HasSameVectors};
 ghost use Rattle.pmt_trimming.specs.Headline.{IsShortest};
-ghost use Rattle.pmt_trimming.specs.AllEvents.{all_marks};
+ghost use Rattle.pmt_trimming.specs.Passing.{all_marks};
 
 use crate::trimming::trim;
 use pmt_model::{Event, OutOfMemory, Selection, Trace};

@@ -1,11 +1,9 @@
 //! The events of a trace that comes: the lines of those that wait, and the text of those that have left.
 ghost use Rattle.std.specs.Prelude.{◌≡◌, ◌++◌, ◌<◌, ◌≤◌, ℕ, Bool, List, [], ◌∷◌, IfOk, IfSome, OnOk};
-ghost use Rattle.pmt_model.specs.Pushing.{empty, with_event};
-ghost use Rattle.pmt_model.specs.Traces.{Recording, event_limit};
+ghost use Rattle.pmt_laws.specs.Prelude.{empty, with_event, Recording, event_limit};
 ghost use Rattle.pmt_trimming.specs.Passing.{IsPassOf, taken};
-ghost use Rattle.pmt_trimming.specs.Streaming.{IsOut, IsTextOfTrimmed};
+ghost use Rattle.pmt_trimming.specs.Streaming.{IsOut, IsTextOfTrimmed, EndsWithKept, IsStream, IsStreamOf, IsStreamSoFar};
 ghost use Rattle.pmt_text.specs.Spelling.{event_text};
-ghost use Rattle.pmt_trimming.specs.Leaving.{EndsWithKept, IsStream, IsStreamOf, IsStreamSoFar};
 ghost use Rattle.pmt_trimming.specs.LineQueues.{kept_text, kept_texts};
 
 use crate::line_queue::LineQueue;

@@ -3,8 +3,7 @@ ghost use Rattle.std.specs.Prelude.{◌≡◌, ◌+◌, ◌-◌, ◌^◌, ◌<�
 ghost use Rattle.std.specs.Io.KnownBytes.{Keeps};
 ghost use Rattle.pmt_model.specs.Traces.{Recording};
 ghost use Rattle.pmt_text.specs.Counting.{failure_count, inner_device};
-ghost use Rattle.pmt_trimming.specs.Leaving.{Closes, IsSoFar, IsUnderWay, WritesPiece, WritesRest, piece_faults};
-ghost use Rattle.pmt_trimming.specs.Streaming.{CountsStream, Streams, TellsStream, stream_write_faults};
+ghost use Rattle.pmt_trimming.specs.Streaming.{Closes, IsSoFar, IsUnderWay, WritesPiece, WritesRest, piece_faults, CountsStream, Streams, TellsStream, stream_write_faults};
 
 use crate::stream::Stream;
 use crate::stream_error::StreamError;

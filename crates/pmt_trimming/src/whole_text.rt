@@ -1,16 +1,12 @@
 //! The trimmer that gives the whole text.
 ghost use Rattle.std.specs.Prelude.{◌≡◌, ℕ, ◌+◌, ◌++◌, ◌∷◌, [], ◌<◌, ◌≤◌, Bool, List, Option, length, map, Some, IfOk, IfErr, IfSome, OnOk, vec_capacity, vec_len};
-ghost use Rattle.std.specs.List.{flat_map};
-ghost use Rattle.pmt_model.specs.Pushing.{empty, with_event, with_events};
-ghost use Rattle.pmt_model.specs.declared.event.Event.{Event};
-ghost use Rattle.pmt_model.specs.Traces.{Recording, event_limit};
+ghost use Rattle.pmt_laws.specs.Prelude.{empty, with_event, with_events, Event, Recording, event_limit, flat_map};
 ghost use Rattle.pmt_text.specs.Spelling.{event_text};
 ghost use Rattle.pmt_text.specs.Sources.{CountsReads, LendsAll};
 ghost use Rattle.pmt_taking.specs.Sourcing.{IsFaultOf, TellsTaken, told_by};
 ghost use Rattle.pmt_trimming.specs.LineQueues.{kept_texts};
 ghost use Rattle.pmt_trimming.specs.Passing.{AreDecidedFrom, AreMarks, IsPassOf, IsPassing, flag_by, taken};
-ghost use Rattle.pmt_trimming.specs.Streaming.{IsTextOfTrimmed};
-ghost use Rattle.pmt_trimming.specs.WholeTexts.{HasLeftTo, IsHeldAt, IsTextOfWhole, IsWhole, IsWholeOf};
+ghost use Rattle.pmt_trimming.specs.Streaming.{IsTextOfTrimmed, HasLeftTo, IsHeldAt, IsTextOfWhole, IsWhole, IsWholeOf};
 
 use crate::held_lines::HeldLines;
 use crate::line_len::line_len;

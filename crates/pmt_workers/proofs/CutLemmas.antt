@@ -5,7 +5,7 @@ use Rattle.std.proofs.lemmas.List.{take_more, take-append-drop}
 use Rattle.pmt_model.specs.Traces.{event_limit}
 use Rattle.pmt_lines.specs.declared.step.Step.{Step}
 use Rattle.pmt_lines.specs.Jobs.{LineWork, AreSteps}
-use Rattle.pmt_workers.specs.Halving.{steps_of, apart}
+use Rattle.pmt_workers.specs.Answering.{steps_of, apart}
 
 -- The steps of jobs one after another.
 pub steps_of-append : (js ks : List LineWork) → steps_of (js ++ ks) ≡ steps_of js + steps_of ks

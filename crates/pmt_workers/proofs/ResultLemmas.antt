@@ -1,14 +1,12 @@
 -- The results and the lists of what is kept, taken from the answers to all jobs of a trace.
 use Rattle.std.proofs.Common.{◌≡◌, ℕ, List, [], ◌∷◌, map, length, refl, sym, ap, ap₂, ◌∙◌, subst}
-use Rattle.std.specs.List.{AllByRecursion}
-use Rattle.pmt_model.specs.Traces.{Recording, history, lines_of}
+use Rattle.pmt_laws.specs.Prelude.{AllByRecursion, Recording, history, lines_of}
 use Rattle.pmt_lines.specs.Jobs.{LineWork, LineFound, IsJob, IsLeanJob, line_in}
 use Rattle.pmt_findings.specs.Merging.{job_in}
 use Rattle.pmt_trim.specs.Kept.{AreLinesKept}
 use Rattle.pmt_workers.specs.declared.shard.LineAnswer.{LineAnswer}
-use Rattle.pmt_workers.specs.Answering.{AreAnswersTo}
+use Rattle.pmt_workers.specs.Answering.{AreAnswersTo, result_in, kept_in}
 use Rattle.pmt_asserts.specs.Tables.{found_line as line_found, AreResultsOf}
-use Rattle.pmt_workers.specs.Results.{result_in, kept_in}
 
 -- the results have the jobs that were answered
 pub jobs-same : (jobs : List LineWork) (answers : List LineAnswer) → AreAnswersTo jobs answers → map job_in (map result_in answers) ≡ jobs

@@ -1,4 +1,1 @@
 pub mod Answering
-pub mod Results
-pub mod Halving
-pub mod Asking

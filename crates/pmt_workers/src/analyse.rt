@@ -6,10 +6,9 @@ ghost use Rattle.pmt_text.specs.Sources.{CountsReads};
 ghost use Rattle.pmt_lines.specs.Jobs.{IsSplit};
 ghost use Rattle.pmt_taking.specs.Sourcing.{IsFaultOf};
 ghost use Rattle.pmt_trimming.specs.Headline.{IsTrimmed};
-ghost use Rattle.pmt_analysis.specs.Analysing.{IsAnalysed};
-ghost use Rattle.pmt_workers.specs.Asking.{TellsSource, error_of, told_by};
+ghost use Rattle.pmt_analysis.specs.Analysing.{IsAnalysed, is_worker_count};
+ghost use Rattle.pmt_workers.specs.Answering.{TellsSource, error_of, told_by};
 ghost use Rattle.pmt_workers.specs.declared.analyse.AnalyseError.TheVariants.{OutOfMemory};
-ghost use Rattle.pmt_analysis.specs.Workers.{is_worker_count};
 
 use crate::halves::run_in_halves;
 use crate::results::taken_apart;

@@ -1,6 +1,6 @@
 //! Where jobs are cut in two.
 ghost use Rattle.std.specs.Prelude.{◌≡◌, ◌<◌, ◌^◌};
-ghost use Rattle.pmt_workers.specs.Halving.{steps_of, apart, IsFairCut};
+ghost use Rattle.pmt_workers.specs.Answering.{steps_of, apart, IsFairCut};
 
 use pmt_lines::LineJob;
 

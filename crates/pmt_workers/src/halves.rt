@@ -3,7 +3,7 @@ ghost use Rattle.std.specs.Prelude.{◌≡◌, ◌<◌, ◌≤◌, ◌+◌, ◌^
 ghost use Rattle.std.specs.List.{flat_map};
 ghost use Rattle.std.specs.Thread.{IsSync};
 ghost use Rattle.pmt_workers.specs.Answering.{AreAnswersTo};
-ghost use Rattle.pmt_analysis.specs.Workers.{is_worker_count};
+ghost use Rattle.pmt_analysis.specs.Analysing.{is_worker_count};
 
 use crate::cut::fair_cut;
 use crate::shard::{LineAnswer, ShardGate};

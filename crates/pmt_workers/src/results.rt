@@ -1,7 +1,7 @@
 //! Taking the answers of the workers apart.
 ghost use Rattle.std.specs.Prelude.{◌≡◌, map, ◌++◌, IfOk, OnOk};
 ghost use Rattle.std.specs.List.{flat_map};
-ghost use Rattle.pmt_workers.specs.Results.{result_in, kept_in};
+ghost use Rattle.pmt_workers.specs.Answering.{result_in, kept_in};
 
 use crate::shard::LineAnswer;
 use pmt_lines::LineResult;

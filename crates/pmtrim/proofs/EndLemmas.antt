@@ -14,8 +14,7 @@ use Rattle.pmt_report.specs.Faults.{run_status}
 use Rattle.pmt_report.specs.Runs.{IsAnalysisFault, Runs}
 use Rattle.command_inputs.specs.declared.fault.Fault.{Fault}
 use Rattle.command_inputs.specs.declared.fault.Fault.TheVariants as faults
-use Rattle.command_inputs.specs.Devices.{named_contents}
-use Rattle.command_inputs.specs.Faults.{IsToldAs}
+use Rattle.command_inputs.specs.Devices.{named_contents, IsToldAs}
 use Rattle.command_inputs.proofs.NamedLemmas.{appends-back, keeps-back}
 use Rattle.pmtrim.specs.Commands.{EndsAs, EndsCheck, EndsStream, StreamsOf, end_status, failed_status, stream_fault}
 

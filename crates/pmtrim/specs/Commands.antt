@@ -1,9 +1,7 @@
 -- What a command ends with, by the bytes that come to it: the status, and what is out.
 use Rattle.std.specs.Prelude.{◌≡◌, ℕ, ◌⊎◌, Bool, true, false, List, length, take, Option, None, Result, Ok, Err, IfOk, MatchResult}
 use Rattle.std.specs.Io.KnownBytes.{Appends, Keeps}
-use Rattle.pmt_model.specs.declared.event.Op.{Op}
-use Rattle.pmt_model.specs.Formats.{first_version}
-use Rattle.pmt_model.specs.Traces.{Recording}
+use Rattle.pmt_text.specs.Prelude.{Op, first_version, Recording}
 use Rattle.pmt_text.specs.Coming.{Coming}
 use Rattle.pmt_text.specs.Spelling.{spelling}
 use Rattle.pmt_trimming.specs.declared.stream_error.StreamError.{StreamError}
@@ -22,7 +20,7 @@ use Rattle.command_requests.specs.declared.request.Run.TheVariants as runs
 use Rattle.command_requests.specs.declared.explaining.Form.TheVariants.{Json}
 use Rattle.command_inputs.specs.declared.fault.Fault.{Fault}
 use Rattle.command_inputs.specs.declared.writing.Sent.{Sent}
-use Rattle.command_inputs.specs.Faults.{IsToldAs, fault_status}
+use Rattle.command_inputs.specs.Devices.{IsToldAs, fault_status}
 use Rattle.command_explain.specs.Telling.{TellsJson}
 
 -- The status that a command ends with.

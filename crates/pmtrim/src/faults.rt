@@ -1,6 +1,6 @@
 //! The faults of runs, with their reasons.
 ghost use Rattle.pmt_report.specs.Faults.{run_status};
-ghost use Rattle.command_inputs.specs.Faults.{IsToldAs, fault_status};
+ghost use Rattle.command_inputs.specs.Devices.{IsToldAs, fault_status};
 
 use command_inputs::{Fault, Input, Memory, Recalling, reasoned};
 use pmt_report::RunError;

@@ -1,6 +1,6 @@
 //! Recording scripts: each is run in a thread of its own, and the trace that they record is written.
 ghost use Rattle.std.specs.Prelude.{◌≡◌, length, map, IfOk};
-ghost use Rattle.pmt_model.specs.Formats.{first_version};
+ghost use Rattle.pmt_model.specs.Values.{first_version};
 ghost use Rattle.pmt_recorder.specs.Scripts.{IsRecorded};
 ghost use Rattle.pmtrim.specs.Commands.{IsTextOfRecorded, Records};
 

@@ -3,7 +3,7 @@
 #![tactic(auto)]
 
 ghost use Rattle.std.specs.Prelude.{◌≡◌};
-ghost use Rattle.pmt_model.specs.Formats.{first_version};
+ghost use Rattle.pmt_model.specs.Values.{first_version};
 
 use anyhow::{Error, Result, bail};
 use pmt_model::{NoGate, Op, OpError, Range, Trace};

@@ -1,7 +1,7 @@
 //! Calls of a book, and of a session in which two threads record (two_recorders).
 
 ghost use Rattle.std.specs.Prelude.{◌≡◌};
-ghost use Rattle.pmt_model.specs.Formats.{first_version};
+ghost use Rattle.pmt_model.specs.Values.{first_version};
 
 use crate::stop::{Stop, gave, refused, worst};
 use pmt_book::Book;

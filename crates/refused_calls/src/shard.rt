@@ -3,8 +3,7 @@ ghost use Rattle.std.specs.Prelude.{◌≡◌, map, IfOk};
 ghost use Rattle.pmt_lines.specs.Jobs.{IsSplit};
 ghost use Rattle.pmt_trim.specs.Kept.{AreAllKept};
 ghost use Rattle.pmt_asserts.specs.Tables.{AreResultsOf};
-ghost use Rattle.pmt_workers.specs.Answering.{AreAnswersTo};
-ghost use Rattle.pmt_workers.specs.Results.{result_in, kept_in};
+ghost use Rattle.pmt_workers.specs.Answering.{AreAnswersTo, result_in, kept_in};
 
 use crate::lines::is_apart;
 use crate::shape::Shape;

@@ -1,4 +1,4 @@
-use Rattle.pmt_model.specs.Formats.{first_version}
+use Rattle.pmt_model.specs.Values.{first_version}
 use Rattle.record_counter.proofs.main.Given as goal
 
 abbrev pub ghosts-record-L-Roll : goal.ghosts-record-L-Roll

@@ -1,5 +1,5 @@
 use Rattle.std.proofs.Common.{rules, ◌≡◌, ℕ, true, false, sym, ap, ◌∙◌, arith}
-use Rattle.pmt_asked.specs.Ignoring.{are_ignored, is_byte_ignored}
+use Rattle.pmt_asked.specs.Choosing.{are_ignored, is_byte_ignored}
 use Rattle.pmt_asked.proofs.IgnoringLemmas.{ignored-step, ignored-stop}
 use Rattle.pmt_asked.proofs.ignoring.is_store_ignored.Goals as goal
 

@@ -1,5 +1,5 @@
 use Rattle.std.proofs.Common.{◌≡◌, ◌+◌, ◌-◌, ◌≤◌, length, drop}
-use Rattle.pmt_asked.specs.Ignoring.{are_ignored}
+use Rattle.pmt_asked.specs.Choosing.{are_ignored}
 use Rattle.pmt_asked.proofs.ignoring.is_store_ignored.Given as goal
 
 abbrev pub invariant-loop-byte : goal.invariant-loop-byte

@@ -1,7 +1,7 @@
 use Rattle.std.proofs.Common.{◌≡◌, ◌+◌, ◌<◌, ◌∷◌, ◌++◌, [], suc, length, get_or, Some, sym, ap, subst, ◌∙◌, arith}
 use Rattle.std.proofs.lemmas.Option.{slice_get-get_or}
 use Rattle.pmt_model.specs.Traces.{event}
-use Rattle.pmt_asserts.specs.Judging.{AreAssertions}
+use Rattle.pmt_asserts.specs.Tables.{AreAssertions}
 use Rattle.pmt_asserts.proofs.VerdictLemmas.{assertions-skip, assertions-take}
 use Rattle.pmt_asserts.proofs.judge.assertions.Goals as goal
 use Rattle.pmt_asserts.proofs.judge.assertions.Goals.{then-is_assertion+in_ok-push, else-is_assertion}

@@ -1,4 +1,4 @@
-use Rattle.pmt_asserts.specs.Judging.{AreAssertions}
+use Rattle.pmt_asserts.specs.Tables.{AreAssertions}
 use Rattle.pmt_asserts.proofs.judge.assertions.Given as goal
 
 abbrev pub invariant-loop-index : goal.invariant-loop-index

@@ -1,5 +1,5 @@
 use Rattle.std.proofs.Common.{◌≡◌, ◌+◌, ◌∙◌, Some, sym, subst, arith}
-use Rattle.pmt_asserts.specs.Judging.{earlier_of}
+use Rattle.pmt_asserts.specs.Tables.{earlier_of}
 use Rattle.pmt_asserts.proofs.EarliestLemmas.{EarliestOfBelow, earliest-end, earliest-more, earliest-skip, taken-by, skipped-by}
 use Rattle.pmt_asserts.proofs.judge.earliest.Goals as goal
 use Rattle.pmt_asserts.proofs.judge.earliest.Goals.{then-ne, else-ne}

@@ -1,5 +1,5 @@
 use Rattle.pmt_model.specs.Traces.{Recording}
-use Rattle.pmt_asserts.specs.Judging.{Knows}
+use Rattle.pmt_asserts.specs.Tables.{Knows}
 use Rattle.pmt_asserts.proofs.EarliestLemmas.{EarliestOfBelow}
 use Rattle.pmt_asserts.proofs.judge.earliest.Given as goal
 

@@ -1,6 +1,5 @@
 use Rattle.std.proofs.Common.{ℕ, ◌≤◌, IfSome, refl, sym, subst}
-use Rattle.pmt_asserts.specs.Tables.{PersistedBy}
-use Rattle.pmt_asserts.specs.Judging.{EachIn}
+use Rattle.pmt_asserts.specs.Tables.{PersistedBy, EachIn}
 use Rattle.pmt_asserts.proofs.judge.is_line_ordered.Goals as goal
 
 pub returns-then-not-is_line_in_order : goal.returns-then-not-is_line_in_order

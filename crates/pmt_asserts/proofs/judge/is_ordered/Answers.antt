@@ -1,7 +1,7 @@
 use Rattle.std.proofs.Common.{◌≡◌, ◌≤◌, ◌∙◌, IfSome, Some, IsTrue, refl, sym, subst, arith}
 use Rattle.std.proofs.lemmas.Bool.{false≢true}
 use Rattle.pmt_model.specs.Values.{line_of}
-use Rattle.pmt_asserts.specs.Judging.{IsEarliestOf, IsLineOrdered, place_for}
+use Rattle.pmt_asserts.specs.Tables.{IsEarliestOf, IsLineOrdered, place_for}
 use Rattle.pmt_asserts.proofs.JudgeLemmas.{ordered-from, lines-from, place-within}
 use Rattle.pmt_asserts.proofs.LineLemmas.{below-none, below-more}
 use Rattle.pmt_asserts.proofs.judge.is_ordered.Goals as goal

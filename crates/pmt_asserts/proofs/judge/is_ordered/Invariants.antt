@@ -1,5 +1,5 @@
 use Rattle.pmt_model.specs.Traces.{Recording}
-use Rattle.pmt_asserts.specs.Judging.{IsLineOrdered, Knows, place_for}
+use Rattle.pmt_asserts.specs.Tables.{IsLineOrdered, Knows, place_for}
 use Rattle.pmt_asserts.proofs.LineLemmas.{HoldsBelow}
 use Rattle.pmt_asserts.proofs.judge.is_ordered.Given as goal
 

@@ -1,5 +1,4 @@
-use Rattle.pmt_asserts.specs.Tables.{IsUnwritten}
-use Rattle.pmt_asserts.specs.Judging.{EachIn}
+use Rattle.pmt_asserts.specs.Tables.{IsUnwritten, EachIn}
 use Rattle.pmt_asserts.proofs.LineLemmas.{below-none}
 use Rattle.pmt_asserts.proofs.judge.is_written.Goals as goal
 

@@ -1,6 +1,5 @@
 use Rattle.pmt_model.specs.Traces.{Recording}
-use Rattle.pmt_asserts.specs.Judging.{EachIn, Knows}
-use Rattle.pmt_asserts.specs.Tables.{IsUnwritten}
+use Rattle.pmt_asserts.specs.Tables.{EachIn, Knows, IsUnwritten}
 use Rattle.pmt_asserts.proofs.LineLemmas.{HoldsBelow}
 use Rattle.pmt_asserts.proofs.judge.is_written.Given as goal
 

@@ -1,7 +1,6 @@
 use Rattle.std.proofs.Common.{refl, arith}
 use Rattle.pmt_model.specs.Values.{line_of}
-use Rattle.pmt_asserts.specs.Tables.{PersistedBy}
-use Rattle.pmt_asserts.specs.Judging.{EachIn}
+use Rattle.pmt_asserts.specs.Tables.{PersistedBy, EachIn}
 use Rattle.pmt_asserts.proofs.JudgeLemmas.{persist-by}
 use Rattle.pmt_asserts.proofs.LineLemmas.{below-none, below-more}
 use Rattle.pmt_asserts.proofs.judge.persists.Goals as goal

@@ -1,7 +1,6 @@
 use Rattle.std.proofs.Common.{◌≡◌, Some, refl, sym, ◌∙◌}
-use Rattle.pmt_model.specs.Analyses.{OfPersist, OfOrdered}
-use Rattle.pmt_model.specs.Traces.{event}
-use Rattle.pmt_asserts.specs.Judging.{Knows}
+use Rattle.pmt_laws.specs.Prelude.{OfPersist, OfOrdered, event}
+use Rattle.pmt_asserts.specs.Tables.{Knows}
 use Rattle.pmt_asserts.proofs.VerdictLemmas.{number-within}
 use Rattle.pmt_asserts.proofs.judge.verdict.Goals as goal
 

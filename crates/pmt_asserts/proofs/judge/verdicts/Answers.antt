@@ -3,7 +3,7 @@ use Rattle.pmt_model.specs.Analyses.{IsVerdicts}
 use Rattle.rayon.specs.Lists.{iter_slice}
 use Rattle.rayon.proofs.ListFacts.{IfOk-then}
 use Rattle.rayon.proofs.ToStd.{slice-AllZip}
-use Rattle.pmt_asserts.specs.Judging.{IsVerdictAt}
+use Rattle.pmt_asserts.specs.Tables.{IsVerdictAt}
 use Rattle.pmt_asserts.proofs.VerdictLemmas.{verdicts-all}
 use Rattle.pmt_asserts.proofs.judge.verdicts.Goals as goal
 

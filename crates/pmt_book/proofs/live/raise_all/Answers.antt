@@ -3,8 +3,7 @@ use Rattle.std.proofs.lemmas.List.{drop_all, get_or_default, length-map}
 use Rattle.std.proofs.lemmas.Option.{slice_get-get_or}
 use Rattle.pmt_rows.specs.declared.open.OpenFlush.{OpenFlush}
 use Rattle.pmt_rows.specs.Known.{AreRows, row_by}
-use Rattle.pmt_rows.specs.Waiting.{raise_all}
-use Rattle.pmt_rows.specs.Fencing.{waits_all}
+use Rattle.pmt_rows.specs.Waiting.{raise_all, waits_all}
 use Rattle.pmt_rows.proofs.FencingLemmas.{line_in, raising-next}
 use Rattle.pmt_book.proofs.live.raise_all.Goals as goal
 

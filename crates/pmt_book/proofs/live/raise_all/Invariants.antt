@@ -1,8 +1,7 @@
 use Rattle.std.proofs.Common.{ℕ, ◌<◌, List, length, drop}
 use Rattle.std.specs.Prelude.{All}
 use Rattle.pmt_rows.specs.Known.{AreRows}
-use Rattle.pmt_rows.specs.Waiting.{raise_all}
-use Rattle.pmt_rows.specs.Fencing.{waits_all}
+use Rattle.pmt_rows.specs.Waiting.{raise_all, waits_all}
 use Rattle.pmt_book.proofs.live.raise_all.Given as goal
 
 abbrev pub invariant-loop-index : goal.invariant-loop-index

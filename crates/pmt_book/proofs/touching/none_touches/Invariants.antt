@@ -1,6 +1,6 @@
 use Rattle.std.proofs.Common.{◌≡◌, length, map, reverse}
 use Rattle.pmt_model.specs.Traces.{act}
-use Rattle.pmt_book.specs.Touching.{none_touches}
+use Rattle.pmt_book.specs.Live.{none_touches}
 use Rattle.pmt_book.proofs.touching.none_touches.Given as goal
 
 abbrev pub invariant-loop-event : goal.invariant-loop-event

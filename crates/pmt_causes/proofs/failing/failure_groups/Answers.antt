@@ -1,7 +1,5 @@
-use Rattle.std.proofs.Common.{List, IfOk, subst}
-use Rattle.pmt_causes.specs.FailureKeys.{AreFailureGroups}
-use Rattle.pmt_causes.specs.declared.failure_keys.FailureKey.{FailureKey}
-use Rattle.pmt_causes.specs.declared.grouping.Group.{Group}
+use Rattle.std.proofs.Common.{IfOk, subst}
+use Rattle.pmt_causes.specs.Groups.{AreFailureGroups}
 use Rattle.pmt_causes.proofs.failing.failure_groups.Goals as goal
 
 pub returns : goal.returns

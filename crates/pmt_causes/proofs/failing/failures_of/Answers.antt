@@ -1,7 +1,7 @@
 use Rattle.std.proofs.Common.{◌++◌, ◌∷◌, [], take, get_or, sym, subst, arith}
 use Rattle.std.proofs.lemmas.Grind.{elements}
 use Rattle.std.proofs.lemmas.List.{take_all, take_more}
-use Rattle.pmt_causes.specs.FailureKeys.{AreKeyed}
+use Rattle.pmt_causes.specs.Groups.{AreKeyed}
 use Rattle.pmt_causes.proofs.KeyLemmas.{keyed-more}
 use Rattle.pmt_causes.proofs.failing.failures_of.Goals as goal
 

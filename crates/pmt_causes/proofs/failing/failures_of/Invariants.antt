@@ -1,5 +1,5 @@
 use Rattle.std.proofs.Common.{take}
-use Rattle.pmt_causes.specs.FailureKeys.{AreKeyed}
+use Rattle.pmt_causes.specs.Groups.{AreKeyed}
 use Rattle.pmt_causes.specs.Writers.{AreAllWriters}
 use Rattle.pmt_causes.proofs.failing.failures_of.Given as goal
 

@@ -1,6 +1,6 @@
 use Rattle.std.proofs.Common.{arith, sym, subst}
 use Rattle.std.proofs.lemmas.Grind.{elements}
-use Rattle.pmt_explain.specs.Upcoming.{AreNextFlushes}
+use Rattle.pmt_explain.specs.Following.{AreNextFlushes}
 use Rattle.pmt_causes.specs.Groups.{AreGrouped}
 use Rattle.pmt_causes.proofs.ExactFailures.{failure-exact}
 use Rattle.pmt_causes.proofs.failing.groups_of.Goals as goal

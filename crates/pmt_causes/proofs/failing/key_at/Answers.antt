@@ -4,7 +4,7 @@ use Rattle.pmt_model.specs.Traces.{event, act}
 use Rattle.pmt_laws.proofs.Histories.{act-within}
 use Rattle.pmt_reasons.specs.Failures.{IsFailureAt}
 use Rattle.pmt_causes.specs.declared.failure_keys.FailureKey.{FailureKey}
-use Rattle.pmt_causes.specs.FailureKeys.{IsFailureKey}
+use Rattle.pmt_causes.specs.Groups.{IsFailureKey}
 use Rattle.pmt_causes.proofs.KeyLemmas.{persist-keyed, ordered-keyed}
 use Rattle.pmt_causes.proofs.failing.key_at.Goals as goal
 

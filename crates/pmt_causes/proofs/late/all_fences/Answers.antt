@@ -2,7 +2,7 @@ use Rattle.std.proofs.Common.{◌≡◌, ◌<◌, ◌+◌, suc, length, map, Som
 use Rattle.std.specs.Prelude.{slice_get}
 use Rattle.std.proofs.lemmas.List.{length-map}
 use Rattle.std.proofs.lemmas.Option.{slice_get-get_or}
-use Rattle.pmt_causes.specs.Fences.{AreFences}
+use Rattle.pmt_causes.specs.Late.{AreFences}
 use Rattle.pmt_causes.proofs.FenceLemmas.{fences-start, fences-next}
 use Rattle.pmt_causes.proofs.late.all_fences.Goals as goal
 

@@ -1,5 +1,5 @@
 use Rattle.std.proofs.Common.{map}
-use Rattle.pmt_causes.specs.Fences.{AreFences}
+use Rattle.pmt_causes.specs.Late.{AreFences}
 use Rattle.pmt_causes.proofs.late.all_fences.Given as goal
 
 abbrev pub invariant-loop-index : goal.invariant-loop-index

@@ -1,8 +1,7 @@
 use Rattle.std.proofs.Common.{◌≡◌, ◌+◌, ◌-◌, ap, sym, subst, ◌∙◌, arith}
 use Rattle.std.specs.Prelude.{nat_le, if◌then◌else◌}
 use Rattle.std.specs.List.{count_by}
-use Rattle.pmt_causes.specs.Fences.{wait_of}
-use Rattle.pmt_causes.specs.Late.{is_fence}
+use Rattle.pmt_causes.specs.Late.{wait_of, is_fence}
 use Rattle.pmt_causes.proofs.late.fences_of.Goals as goal
 
 pub returns-in-Store-clause-wait : goal.returns-in-Store-clause-wait

@@ -4,10 +4,8 @@ use Rattle.std.specs.Prelude.{slice_get, slice_index}
 use Rattle.std.specs.List.Sorted.{IsNonDecreasingBy}
 use Rattle.std.proofs.lemmas.List.{get_or-replicate, length-map, length-set}
 use Rattle.std.proofs.lemmas.Option.{slice_get-get_or, slice_get_within}
-use Rattle.pmt_explain.specs.Saving.{TellsSafe}
-use Rattle.pmt_causes.specs.Counted.{counted}
-use Rattle.pmt_causes.specs.Late.{IsWaited, is_fence_of, late_items, with_spot}
-use Rattle.pmt_causes.specs.Fences.{AreFencesBy}
+use Rattle.pmt_explain.specs.Following.{TellsSafe}
+use Rattle.pmt_causes.specs.Late.{counted, IsWaited, is_fence_of, late_items, with_spot, AreFencesBy}
 use Rattle.pmt_causes.proofs.FenceLemmas.{passed-next, passed-now, passed-own, waited-told}
 use Rattle.pmt_causes.proofs.LateLemmas.{items-next, items-set, waited-set}
 use Rattle.pmt_causes.proofs.late.late_by.Goals as goal

@@ -1,7 +1,6 @@
 use Rattle.std.proofs.Common.{◌≡◌, ℕ, suc, ◌<◌, length, get_or}
 use Rattle.std.specs.Prelude.{slice_get, Some}
-use Rattle.pmt_causes.specs.Counted.{counted}
-use Rattle.pmt_causes.specs.Late.{IsWaited, is_fence_of, late_items}
+use Rattle.pmt_causes.specs.Late.{counted, IsWaited, is_fence_of, late_items}
 use Rattle.pmt_causes.proofs.late.late_by.Given as goal
 
 abbrev pub invariant-loop-index : goal.invariant-loop-index

@@ -1,6 +1,6 @@
 use Rattle.std.proofs.Common.{sym, subst}
 use Rattle.std.specs.Prelude.{IfOk}
-use Rattle.pmt_explain.specs.Saving.{AreSafePlaces}
+use Rattle.pmt_explain.specs.Following.{AreSafePlaces}
 use Rattle.pmt_causes.specs.Late.{AreLateItems, AreWaited}
 use Rattle.pmt_causes.proofs.late.late_stores.Goals as goal
 

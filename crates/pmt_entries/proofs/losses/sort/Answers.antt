@@ -1,6 +1,6 @@
 use Rattle.std.proofs.Common.{rules}
 use Rattle.std.proofs.lemmas.List.Sorted.{IsNonDecreasingBy-from_sort_by_key}
-use Rattle.pmt_entries.specs.Losses.{first_of}
+use Rattle.pmt_entries.specs.Entries.{first_of}
 use Rattle.pmt_entries.proofs.losses.sort.Goals as goal
 
 pub returns : goal.returns

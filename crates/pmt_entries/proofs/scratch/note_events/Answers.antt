@@ -1,10 +1,9 @@
 use Rattle.std.proofs.Common.{ap, ◌∙◌, arith}
-use Rattle.std.specs.List.{list_any}
+use Rattle.pmt_laws.specs.Prelude.{list_any, Event}
 use Rattle.std.proofs.lemmas.List.{take_all}
-use Rattle.pmt_model.specs.declared.event.Event.{Event}
 use Rattle.pmt_hints.specs.Claiming.{claim_at, or_so}
 use Rattle.pmt_hints.proofs.ClaimLemmas.{or_so-none}
-use Rattle.pmt_entries.specs.Scratch.{event_touches, op_touches}
+use Rattle.pmt_entries.specs.Sites.{event_touches, op_touches}
 use Rattle.pmt_entries.proofs.ScratchLemmas.{any-more}
 use Rattle.pmt_entries.proofs.scratch.note_events.Goals as goal
 

@@ -1,7 +1,7 @@
 use Rattle.std.proofs.Common.{◌≡◌, ℕ, take}
 use Rattle.std.specs.List.{list_any}
 use Rattle.pmt_hints.specs.Claiming.{claim_at, or_so}
-use Rattle.pmt_entries.specs.Scratch.{event_touches}
+use Rattle.pmt_entries.specs.Sites.{event_touches}
 use Rattle.pmt_entries.proofs.scratch.note_events.Given as goal
 
 abbrev pub invariant-loop-event : goal.invariant-loop-event

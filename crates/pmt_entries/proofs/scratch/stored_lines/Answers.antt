@@ -1,6 +1,6 @@
 use Rattle.std.proofs.Common.{refl, subst, arith}
 use Rattle.std.proofs.lemmas.List.{take_all}
-use Rattle.pmt_entries.specs.Scratch.{AreAsked}
+use Rattle.pmt_entries.specs.Sites.{AreAsked}
 use Rattle.pmt_entries.proofs.ScratchLemmas.{asked-more}
 use Rattle.pmt_entries.proofs.scratch.stored_lines.Goals as goal
 

@@ -1,5 +1,5 @@
 use Rattle.std.proofs.Common.{take}
-use Rattle.pmt_entries.specs.Scratch.{AreAsked}
+use Rattle.pmt_entries.specs.Sites.{AreAsked}
 use Rattle.pmt_entries.proofs.scratch.stored_lines.Given as goal
 
 abbrev pub invariant-loop-number : goal.invariant-loop-number

@@ -1,7 +1,7 @@
 use Rattle.std.proofs.Common.{ap, ◌∙◌}
 use Rattle.std.specs.List.{list_any}
 use Rattle.pmt_hints.specs.Claiming.{claim_at, or_so}
-use Rattle.pmt_entries.specs.Scratch.{event_touches}
+use Rattle.pmt_entries.specs.Sites.{event_touches}
 use Rattle.pmt_entries.proofs.scratch.touched_lines.Goals as goal
 
 pub returns : goal.returns

@@ -1,7 +1,7 @@
 use Rattle.std.proofs.Common.{◌≡◌, ◌∙◌}
 use Rattle.std.specs.List.{filter}
 use Rattle.std.proofs.lemmas.Result.{IfOk-weaker}
-use Rattle.pmt_entries.specs.Scratch.{is_noted}
+use Rattle.pmt_entries.specs.Sites.{is_noted}
 use Rattle.pmt_entries.proofs.ScratchLemmas.{stores-touched}
 use Rattle.pmt_entries.proofs.scratch.touched_stores.Goals as goal
 

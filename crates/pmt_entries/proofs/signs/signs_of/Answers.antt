@@ -1,7 +1,7 @@
 use Rattle.std.proofs.Common.{◌≡◌, ◌-◌, ℕ, Some, drop, refl, subst, arith}
 use Rattle.std.specs.List.{position_from}
 use Rattle.pmt_hints.specs.declared.hint.Hint.{Hint}
-use Rattle.pmt_entries.specs.Signs.{is_mark, mark_of, sign_at}
+use Rattle.pmt_entries.specs.Sites.{is_mark, mark_of, sign_at}
 use Rattle.pmt_entries.proofs.SignLemmas.{sign-before, signs-none}
 use Rattle.pmt_entries.proofs.signs.signs_of.Goals as goal
 

@@ -1,7 +1,7 @@
 use Rattle.std.proofs.Common.{◌≡◌, ◌+◌, ◌-◌, ◌<◌, length, suc, Some, sym, ap, ◌∙◌, arith}
 use Rattle.std.specs.Prelude.{slice_get}
 use Rattle.std.proofs.lemmas.Option.{slice_get-get_or}
-use Rattle.pmt_explain.specs.AtEnd.{cause_in}
+use Rattle.pmt_explain.specs.CauseOf.{cause_in}
 use Rattle.pmt_explain.proofs.AtEndLemmas.{back-end, back-event}
 use Rattle.pmt_explain.proofs.at_end.causes_after.Goals as goal
 

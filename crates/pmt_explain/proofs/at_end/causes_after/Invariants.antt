@@ -1,4 +1,4 @@
-use Rattle.pmt_explain.specs.AtEnd.{cause_in}
+use Rattle.pmt_explain.specs.CauseOf.{cause_in}
 use Rattle.pmt_explain.proofs.AtEndLemmas.{IsBack}
 use Rattle.pmt_explain.proofs.at_end.causes_after.Given as goal
 

@@ -1,6 +1,6 @@
 use Rattle.std.proofs.Common.{◌+◌, get_or, arith}
 use Rattle.std.proofs.lemmas.Grind.{elements}
-use Rattle.pmt_explain.specs.Kept.{IsReadOf}
+use Rattle.pmt_explain.specs.Crashes.{IsReadOf}
 use Rattle.pmt_explain.proofs.KeptLemmas.{bytes-pushed, length-pushed}
 use Rattle.pmt_explain.proofs.bytes.bytes_of.Goals as goal
 

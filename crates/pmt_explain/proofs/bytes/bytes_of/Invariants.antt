@@ -1,7 +1,7 @@
 use Rattle.std.proofs.Common.{◌≡◌, ℕ, ◌+◌, length}
 use Rattle.std.specs.Prelude.{slice_get, slice_index, Some}
 use Rattle.pmt_explain.specs.declared.bytes.CrashByte.{CrashByte}
-use Rattle.pmt_explain.specs.Kept.{IsReadOf}
+use Rattle.pmt_explain.specs.Crashes.{IsReadOf}
 use Rattle.pmt_explain.proofs.bytes.bytes_of.Given as goal
 
 abbrev pub invariant-loop-index : goal.invariant-loop-index

@@ -1,7 +1,6 @@
 use Rattle.std.proofs.Common.{subst, ◌∙◌}
 use Rattle.std.proofs.lemmas.Result.{IfOk-weaker}
-use Rattle.pmt_explain.specs.Crashes.{full_line}
-use Rattle.pmt_explain.specs.Kept.{AreReadOf}
+use Rattle.pmt_explain.specs.Crashes.{full_line, AreReadOf}
 use Rattle.pmt_explain.proofs.KeptLemmas.{crash-bytes}
 use Rattle.pmt_explain.proofs.bytes.crash_bytes.Goals as goal
 

@@ -3,7 +3,7 @@ use Rattle.std.proofs.lemmas.Grind.{elements}
 use Rattle.std.specs.Prelude.{if◌then◌else◌}
 use Rattle.std.proofs.lemmas.Option.{slice_get-get_or}
 use Rattle.pmt_model.specs.Traces.{act_of}
-use Rattle.pmt_explain.specs.Kept.{keeps, AreLastKept}
+use Rattle.pmt_explain.specs.Crashes.{keeps, AreLastKept}
 use Rattle.pmt_explain.proofs.KeptLemmas.{kept-next, slice-back}
 use Rattle.pmt_explain.proofs.bytes.last_persisted.Goals as goal
 

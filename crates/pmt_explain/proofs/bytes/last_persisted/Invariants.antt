@@ -1,5 +1,5 @@
 use Rattle.std.proofs.Common.{◌≡◌, length}
-use Rattle.pmt_explain.specs.Kept.{AreLastKept}
+use Rattle.pmt_explain.specs.Crashes.{AreLastKept}
 use Rattle.pmt_explain.proofs.bytes.last_persisted.Given as goal
 
 abbrev pub invariant-loop-index : goal.invariant-loop-index

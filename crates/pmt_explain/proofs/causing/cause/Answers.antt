@@ -1,7 +1,5 @@
 use Rattle.std.proofs.Common.{◌≡◌, sym, ap₂, subst, ◌∙◌}
-use Rattle.pmt_model.specs.Values.{line_of}
-use Rattle.pmt_model.specs.Machine.{Stores}
-use Rattle.pmt_model.specs.Traces.{IsAct}
+use Rattle.pmt_laws.specs.Prelude.{line_of, Stores, IsAct}
 use Rattle.pmt_laws.proofs.Histories.{act-within}
 use Rattle.pmt_explain.proofs.CauseOfLemmas.{store-act, cause-found}
 use Rattle.pmt_explain.proofs.causing.cause.Goals as goal

@@ -1,6 +1,6 @@
 use Rattle.std.proofs.Common.{◌≡◌, ℕ, ◌-◌, ◌<◌, length, refl, sym, ap, ◌∙◌, arith, rules, Some}
 use Rattle.std.proofs.lemmas.Option.{slice_get-get_or}
-use Rattle.pmt_explain.specs.Completed.{flush_at}
+use Rattle.pmt_explain.specs.Crashes.{flush_at}
 use Rattle.pmt_explain.proofs.CompletedLemmas.{gone-start, gone-back, gone-all}
 use Rattle.pmt_explain.proofs.completed.completed_flushes.Goals as goal
 

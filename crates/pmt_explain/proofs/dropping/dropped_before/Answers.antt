@@ -2,12 +2,9 @@ use Rattle.std.proofs.Common.{◌≡◌, ◌+◌, ◌-◌, suc, ◌<◌, length,
 use Rattle.std.specs.Prelude.{slice_get}
 use Rattle.std.proofs.lemmas.Option.{slice_get-get_or}
 use Rattle.pmt_model.specs.Traces.{IsAct, act_of, event}
-use Rattle.pmt_explain.specs.Following.{IsFenceAfter, IsFirst, past_of}
-use Rattle.pmt_explain.specs.Saving.{TellsSafe}
-use Rattle.pmt_explain.specs.Upcoming.{TellsNextFlush}
+use Rattle.pmt_explain.specs.Following.{IsFenceAfter, IsFirst, past_of, TellsSafe, TellsNextFlush}
 use Rattle.pmt_explain.proofs.FollowingLemmas.{event-at}
-use Rattle.pmt_explain.specs.Behind.{IsBehind}
-use Rattle.pmt_explain.specs.Dropping.{IsPast, TellsReason}
+use Rattle.pmt_explain.specs.Dropping.{IsBehind, IsPast, TellsReason}
 use Rattle.pmt_explain.proofs.DroppingLemmas.{dropped-start, dropped-next, dropped-all}
 use Rattle.pmt_explain.proofs.ReasonLemmas.{past-start, number-at}
 use Rattle.pmt_explain.proofs.dropping.dropped_before.Goals as goal

@@ -1,5 +1,4 @@
-use Rattle.pmt_explain.specs.Behind.{IsBehind}
-use Rattle.pmt_explain.specs.Dropping.{IsPast}
+use Rattle.pmt_explain.specs.Dropping.{IsBehind, IsPast}
 use Rattle.pmt_explain.proofs.DroppingLemmas.{AreDroppedTo}
 use Rattle.pmt_explain.proofs.dropping.dropped_before.Given as goal
 

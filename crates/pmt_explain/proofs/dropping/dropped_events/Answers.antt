@@ -1,6 +1,6 @@
 use Rattle.std.proofs.Common.{◌≡◌, length, sym, ap, subst, arith}
 use Rattle.pmt_model.specs.Keeping.{IsKeep}
-use Rattle.pmt_explain.specs.Upcoming.{AreNextFlushes, AreOwnFences}
+use Rattle.pmt_explain.specs.Following.{AreNextFlushes, AreOwnFences}
 use Rattle.pmt_explain.proofs.DroppingLemmas.{dropped-nothing}
 use Rattle.pmt_explain.proofs.dropping.dropped_events.Goals as goal
 

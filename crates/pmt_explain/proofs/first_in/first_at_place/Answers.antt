@@ -2,7 +2,7 @@ use Rattle.std.proofs.Common.{◌≡◌, ◌==◌, true, length, sym, ap, subst,
 use Rattle.std.proofs.lemmas.Grind.{elements}
 use Rattle.std.specs.Prelude.{◌||◌, nat_lt}
 use Rattle.std.proofs.lemmas.Option.{slice_get_within}
-use Rattle.pmt_explain.specs.FirstIn.{IsBlockIn}
+use Rattle.pmt_explain.specs.Crashes.{IsBlockIn}
 use Rattle.pmt_explain.proofs.FirstInLemmas.{block-after, block-known, block-past}
 use Rattle.pmt_explain.proofs.first_in.first_at_place.Goals as goal
 

@@ -1,5 +1,5 @@
 use Rattle.std.proofs.Common.{ℕ, ◌*◌}
-use Rattle.pmt_explain.specs.FirstIn.{IsFirstBelow, range_of}
+use Rattle.pmt_explain.specs.Crashes.{IsFirstBelow, range_of}
 use Rattle.pmt_explain.specs.Writers.{Knows}
 use Rattle.pmt_explain.proofs.first_in.first_in.Given as goal
 

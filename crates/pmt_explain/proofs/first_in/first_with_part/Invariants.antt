@@ -1,5 +1,5 @@
 use Rattle.std.proofs.Common.{ℕ, ◌*◌, ◌≤◌}
-use Rattle.pmt_explain.specs.FirstIn.{GoesOn, IsWordIn}
+use Rattle.pmt_explain.specs.Crashes.{GoesOn, IsWordIn}
 use Rattle.pmt_explain.proofs.first_in.first_with_part.Given as goal
 
 abbrev pub invariant-loop-byte : goal.invariant-loop-byte

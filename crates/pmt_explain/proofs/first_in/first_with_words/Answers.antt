@@ -1,6 +1,6 @@
 use Rattle.std.proofs.Common.{◌≡◌, ◌+◌, ◌*◌, ◌/◌, ◌%◌, ◌==◌, true, subst, sym, arith, ◌∙◌}
 use Rattle.std.specs.Prelude.{◌||◌, nat_lt}
-use Rattle.pmt_explain.specs.FirstIn.{IsFirstBelow}
+use Rattle.pmt_explain.specs.Crashes.{IsFirstBelow}
 use Rattle.pmt_explain.proofs.FirstInLemmas.{goes-back, word-after}
 use Rattle.pmt_explain.proofs.first_in.first_with_words.Goals as goal
 

@@ -1,6 +1,5 @@
 use Rattle.std.proofs.Common.{◌≡◌, ℕ, ◌*◌, ◌≤◌}
-use Rattle.pmt_explain.specs.FirstIn.{GoesOn, IsBlockIn}
-use Rattle.pmt_explain.specs.Losing.{store_bound}
+use Rattle.pmt_explain.specs.Crashes.{GoesOn, IsBlockIn, store_bound}
 use Rattle.pmt_explain.proofs.first_in.first_with_words.Given as goal
 
 abbrev pub invariant-loop-word : goal.invariant-loop-word

@@ -1,7 +1,7 @@
 use Rattle.std.proofs.Common.{◌≡◌, not, true, subst, arith}
 use Rattle.std.proofs.lemmas.Bool.{false≢true}
 use Rattle.pmt_tables.specs.Lasts.{last_at}
-use Rattle.pmt_explain.specs.Wanting.{Wants}
+use Rattle.pmt_explain.specs.Crashes.{Wants}
 use Rattle.pmt_explain.proofs.first_in.has_none.Goals as goal
 
 pub returns-then-oldest-newest : goal.returns-then-oldest-newest

@@ -1,4 +1,4 @@
-use Rattle.pmt_explain.specs.Counting.{AreCountsBy}
+use Rattle.pmt_explain.specs.Crashes.{AreCountsBy}
 use Rattle.pmt_explain.proofs.lines.counts_by.Given as goal
 
 abbrev pub invariant-loop-index : goal.invariant-loop-index

@@ -1,5 +1,5 @@
 use Rattle.std.proofs.Common.{◌≡◌, length, refl, subst, arith}
-use Rattle.pmt_explain.specs.Losing.{AreLostAmong}
+use Rattle.pmt_explain.specs.Crashes.{AreLostAmong}
 use Rattle.pmt_explain.proofs.LostInLemmas.{among-next}
 use Rattle.pmt_explain.proofs.losing.lost_among.Goals as goal
 

@@ -1,4 +1,4 @@
-use Rattle.pmt_explain.specs.Losing.{AreLostAmong}
+use Rattle.pmt_explain.specs.Crashes.{AreLostAmong}
 use Rattle.pmt_explain.proofs.losing.lost_among.Given as goal
 
 abbrev pub invariant-loop-store : goal.invariant-loop-store

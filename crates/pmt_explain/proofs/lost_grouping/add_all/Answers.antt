@@ -2,7 +2,7 @@ use Rattle.std.proofs.Common.{◌≡◌, ◌++◌, ◌∷◌, [], take, length-t
 use Rattle.std.proofs.lemmas.List.{take_all, take_more}
 use Rattle.pmt_explain.specs.declared.lost_grouping.LostGroup.{LostGroup}
 use Rattle.pmt_explain.specs.declared.lost_grouping.Places.{Places}
-use Rattle.pmt_explain.specs.LostGroups.{place_in}
+use Rattle.pmt_explain.specs.Grouping.{place_in}
 use Rattle.pmt_explain.proofs.LostGroupLemmas.{IsLostGathered, lost-start, lost-other, lost-more, lost-stands, lost-room, lost-groups}
 use Rattle.pmt_explain.proofs.lost_grouping.add_all.Goals as goal
 use Rattle.pmt_explain.proofs.lost_grouping.add_all.Goals.{in-Some+in_ok-add_group, in_default}

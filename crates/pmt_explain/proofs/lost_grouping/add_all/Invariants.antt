@@ -1,5 +1,5 @@
 use Rattle.std.proofs.Common.{take}
-use Rattle.pmt_explain.specs.LostGroups.{place_in}
+use Rattle.pmt_explain.specs.Grouping.{place_in}
 use Rattle.pmt_explain.proofs.LostGroupLemmas.{IsLostGathered}
 use Rattle.pmt_explain.proofs.lost_grouping.add_all.Given as goal
 

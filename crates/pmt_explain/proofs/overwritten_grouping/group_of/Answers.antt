@@ -1,8 +1,6 @@
 use Rattle.std.proofs.Common.{arith, ◌≡◌, sym, ap₂, subst, ◌∙◌}
 use Rattle.std.proofs.lemmas.Grind.{elements}
-use Rattle.pmt_model.specs.Values.{line_of}
-use Rattle.pmt_model.specs.Machine.{Stores}
-use Rattle.pmt_model.specs.Traces.{IsAct}
+use Rattle.pmt_laws.specs.Prelude.{line_of, Stores, IsAct}
 use Rattle.pmt_explain.proofs.OverwrittenGroupLemmas.{earlier-none, later-none, pair-alone}
 use Rattle.pmt_explain.proofs.overwritten_grouping.group_of.Goals as goal
 

@@ -1,8 +1,7 @@
 use Rattle.std.proofs.Common.{◌≡◌, ◌-◌, suc, ◌<◌, length, subst, sym, ap, ◌∙◌, arith}
 use Rattle.std.proofs.lemmas.List.{length-set}
 use Rattle.std.proofs.lemmas.Option.{slice_get_within}
-use Rattle.pmt_explain.specs.Following.{IsAhead}
-use Rattle.pmt_explain.specs.Saving.{TellsSafe}
+use Rattle.pmt_explain.specs.Following.{IsAhead, TellsSafe}
 use Rattle.pmt_explain.proofs.FollowingLemmas.{event-at, told-set}
 use Rattle.pmt_explain.proofs.saving.note_places.Goals as goal
 

@@ -1,7 +1,6 @@
 use Rattle.std.proofs.Common.{◌≡◌, ℕ, suc, ◌≤◌, length}
 use Rattle.std.specs.Prelude.{slice_get, Some}
-use Rattle.pmt_explain.specs.Following.{IsAhead}
-use Rattle.pmt_explain.specs.Saving.{TellsSafe}
+use Rattle.pmt_explain.specs.Following.{IsAhead, TellsSafe}
 use Rattle.pmt_explain.proofs.saving.note_places.Given as goal
 
 abbrev pub invariant-loop-index : goal.invariant-loop-index

@@ -2,9 +2,8 @@ use Rattle.std.proofs.Common.{◌≡◌, ◌+◌, ◌-◌, suc, ◌<◌, length,
 use Rattle.std.proofs.lemmas.List.{length-set}
 use Rattle.std.proofs.lemmas.Option.{slice_get_within}
 use Rattle.pmt_model.specs.Traces.{act_of}
-use Rattle.pmt_explain.specs.Following.{past_of}
+use Rattle.pmt_explain.specs.Following.{past_of, TellsNextFlush, next_before, next_in}
 use Rattle.pmt_explain.specs.Numbers.{number_at}
-use Rattle.pmt_explain.specs.Upcoming.{TellsNextFlush, next_before, next_in}
 use Rattle.pmt_explain.proofs.FollowingLemmas.{event-at, told-set}
 use Rattle.pmt_explain.proofs.UpcomingLemmas.{IsAheadOf, flushes-start, flushes-back, next-told}
 use Rattle.pmt_explain.proofs.upcoming.next_flushes.Goals as goal

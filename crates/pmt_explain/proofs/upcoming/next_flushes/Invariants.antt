@@ -1,6 +1,6 @@
 use Rattle.std.proofs.Common.{◌≡◌, ℕ, suc, ◌≤◌, length}
 use Rattle.std.specs.Prelude.{slice_get, Some}
-use Rattle.pmt_explain.specs.Upcoming.{TellsNextFlush}
+use Rattle.pmt_explain.specs.Following.{TellsNextFlush}
 use Rattle.pmt_explain.proofs.UpcomingLemmas.{IsAheadOf}
 use Rattle.pmt_explain.proofs.upcoming.next_flushes.Given as goal
 

@@ -3,14 +3,11 @@ use Rattle.std.proofs.lemmas.Grind.{elements}
 use Rattle.std.specs.Prelude.{slice_get}
 use Rattle.std.proofs.lemmas.List.{length-set}
 use Rattle.std.proofs.lemmas.Option.{same_Some, slice_get-get_or, slice_get_within}
-use Rattle.pmt_model.specs.declared.event.Event.{Event}
-use Rattle.pmt_model.specs.Machine.{Fences}
-use Rattle.pmt_model.specs.Traces.{event}
+use Rattle.pmt_laws.specs.Prelude.{Event, Fences, event}
 use Rattle.pmt_laws.proofs.Histories.{act-within}
-use Rattle.pmt_explain.specs.Following.{IsFenceAfter, IsFirst, past_of}
+use Rattle.pmt_explain.specs.Following.{IsFenceAfter, IsFirst, past_of, fence_of}
 use Rattle.pmt_explain.proofs.FirstLemmas.{first-none}
 use Rattle.pmt_explain.proofs.FollowingLemmas.{told-set}
-use Rattle.pmt_explain.specs.Upcoming.{fence_of}
 use Rattle.pmt_explain.proofs.UpcomingLemmas.{fence-back}
 use Rattle.pmt_explain.proofs.upcoming.own_fences.Goals as goal
 

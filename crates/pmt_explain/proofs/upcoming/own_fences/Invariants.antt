@@ -1,9 +1,7 @@
 use Rattle.std.proofs.Common.{◌≡◌, ℕ, suc, ◌≤◌, ◌<◌, length}
 use Rattle.std.specs.Prelude.{slice_get, Some}
-use Rattle.pmt_model.specs.declared.event.Event.{Event}
-use Rattle.pmt_model.specs.Traces.{event}
-use Rattle.pmt_explain.specs.Following.{IsFenceAfter, IsFirst, past_of}
-use Rattle.pmt_explain.specs.Upcoming.{fence_of}
+use Rattle.pmt_laws.specs.Prelude.{Event, event}
+use Rattle.pmt_explain.specs.Following.{IsFenceAfter, IsFirst, past_of, fence_of}
 use Rattle.pmt_explain.proofs.upcoming.own_fences.Given as goal
 
 abbrev pub invariant-loop-index : goal.invariant-loop-index

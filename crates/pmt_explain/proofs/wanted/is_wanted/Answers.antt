@@ -1,6 +1,6 @@
 use Rattle.std.proofs.Common.{subst}
 use Rattle.std.proofs.lemmas.Bool.{false≢true}
-use Rattle.pmt_explain.specs.Wanting.{Wants}
+use Rattle.pmt_explain.specs.Crashes.{Wants}
 use Rattle.pmt_explain.proofs.wanted.is_wanted.Goals as goal
 
 pub returns-in-None : goal.returns-in-None

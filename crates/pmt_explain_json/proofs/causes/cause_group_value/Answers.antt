@@ -1,8 +1,8 @@
 use Rattle.std.proofs.Common.{◌≡◌, ℕ, List, [], ◌∷◌, length, map, IfOk, subst, ap, ◌∙◌}
 use Rattle.serde_json.specs.Data.{string}
 use Rattle.serde_json.specs.View.{view}
-use Rattle.pmt_explain_json.specs.Groups.{cause_group_data}
-use Rattle.pmt_explain_json.specs.Parts.{array_of, count_data}
+use Rattle.pmt_explain_json.specs.Places.{cause_group_data}
+use Rattle.pmt_explain_json.specs.Entries.{array_of, count_data}
 use Rattle.pmt_explain_json.proofs.Making.{◌also◌, object-made}
 use Rattle.pmt_explain_json.proofs.causes.cause_group_value.Goals as goal
 

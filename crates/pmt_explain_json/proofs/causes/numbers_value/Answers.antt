@@ -1,5 +1,5 @@
 use Rattle.std.proofs.Common.{arith}
-use Rattle.pmt_explain_json.specs.Parts.{count_data}
+use Rattle.pmt_explain_json.specs.Entries.{count_data}
 use Rattle.pmt_explain_json.proofs.Arrays.{array-of-all}
 use Rattle.pmt_explain_json.proofs.Pushing.{value-pushed}
 use Rattle.pmt_explain_json.proofs.causes.numbers_value.Goals as goal

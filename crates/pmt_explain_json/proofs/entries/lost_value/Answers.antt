@@ -1,7 +1,6 @@
 use Rattle.std.proofs.Common.{◌≡◌, [], ◌∷◌, IfOk, subst}
 use Rattle.serde_json.specs.View.{view}
-use Rattle.pmt_explain_json.specs.Entries.{lost_data}
-use Rattle.pmt_explain_json.specs.Parts.{mend_data}
+use Rattle.pmt_explain_json.specs.Entries.{lost_data, mend_data}
 use Rattle.pmt_explain_json.proofs.Making.{◌also◌, object-made}
 use Rattle.pmt_explain_json.proofs.entries.lost_value.Goals as goal
 

@@ -1,7 +1,6 @@
 use Rattle.std.proofs.Common.{◌≡◌, [], ◌∷◌, map, IfOk, subst}
 use Rattle.serde_json.specs.View.{view}
-use Rattle.pmt_explain_json.specs.Entries.{failure_data, line_count_data, range_after_data}
-use Rattle.pmt_explain_json.specs.Parts.{array_of}
+use Rattle.pmt_explain_json.specs.Entries.{failure_data, line_count_data, range_after_data, array_of}
 use Rattle.pmt_explain_json.proofs.Making.{◌also◌, object-made}
 use Rattle.pmt_explain_json.proofs.failures.failure_value.Goals as goal
 

@@ -1,7 +1,7 @@
 use Rattle.std.proofs.Common.{◌≡◌, [], ◌∷◌, IfOk, subst}
 use Rattle.serde_json.specs.Data.{string}
 use Rattle.serde_json.specs.View.{view}
-use Rattle.pmt_explain_json.specs.Hints.{hint_data}
+use Rattle.pmt_explain_json.specs.Places.{hint_data}
 use Rattle.pmt_explain_json.proofs.Making.{◌also◌, object-made}
 use Rattle.pmt_explain_json.proofs.hints.hint_value.Goals as goal
 

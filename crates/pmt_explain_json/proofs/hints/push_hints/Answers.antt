@@ -1,5 +1,5 @@
 use Rattle.std.proofs.Common.{arith}
-use Rattle.pmt_explain_json.specs.Hints.{hint_line}
+use Rattle.pmt_explain_json.specs.Places.{hint_line}
 use Rattle.pmt_explain_json.proofs.Pushing.{all-pushed, lines-pushed}
 use Rattle.pmt_explain_json.proofs.hints.push_hints.Goals as goal
 

@@ -1,6 +1,6 @@
 use Rattle.std.proofs.Common.{◌≡◌, ◌++◌, drop}
 use Rattle.std.specs.List.{flat_map}
-use Rattle.pmt_explain_json.specs.Hints.{hint_line}
+use Rattle.pmt_explain_json.specs.Places.{hint_line}
 use Rattle.pmt_explain_json.proofs.hints.push_hints.Given as goal
 
 abbrev pub invariant-loop-hint : goal.invariant-loop-hint

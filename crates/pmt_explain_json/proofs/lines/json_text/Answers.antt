@@ -1,12 +1,9 @@
 use Rattle.std.proofs.Common.{rules, ◌≡◌, List, [], ◌++◌, ℕ, take}
 use Rattle.std.specs.List.{flat_map}
-use Rattle.pmt_failures.specs.declared.failures.ShownCrash.{ShownCrash}
-use Rattle.pmt_failures.specs.Showing.{AreShownCrashes}
+use Rattle.pmt_explanation.specs.Prelude.{ShownCrash, AreShownCrashes}
 use Rattle.pmt_explain_json.specs.Entries.{dropped_line, failure_line, lost_line, overwritten_line, unwritten_line}
-use Rattle.pmt_explain_json.specs.Groups.{cause_line}
-use Rattle.pmt_explain_json.specs.Lines.{json_lines, summary_line}
-use Rattle.pmt_explain_json.specs.Tables.{table_lines}
-use Rattle.pmt_explain_json.specs.Weighed.{entry_line, told_entries}
+use Rattle.pmt_explain_json.specs.Places.{cause_line}
+use Rattle.pmt_explain_json.specs.Lines.{json_lines, summary_line, table_lines, entry_line, told_entries}
 use Rattle.pmt_explain_json.proofs.Pushing.{pushed-9}
 use Rattle.pmt_explain_json.proofs.lines.json_text.Goals as goal
 

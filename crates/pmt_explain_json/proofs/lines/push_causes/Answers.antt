@@ -1,5 +1,5 @@
 use Rattle.std.proofs.Common.{ap, ◌∙◌, ◌++◌, arith}
-use Rattle.pmt_explain_json.specs.Groups.{cause_line}
+use Rattle.pmt_explain_json.specs.Places.{cause_line}
 use Rattle.pmt_explain_json.proofs.Pushing.{all-pushed, lines-pushed}
 use Rattle.pmt_explain_json.proofs.lines.push_causes.Goals as goal
 

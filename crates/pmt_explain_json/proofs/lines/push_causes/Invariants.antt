@@ -1,6 +1,6 @@
 use Rattle.std.proofs.Common.{◌≡◌, ◌++◌, drop}
 use Rattle.std.specs.List.{flat_map}
-use Rattle.pmt_explain_json.specs.Groups.{cause_line}
+use Rattle.pmt_explain_json.specs.Places.{cause_line}
 use Rattle.pmt_explain_json.proofs.lines.push_causes.Given as goal
 
 abbrev pub invariant-loop-group : goal.invariant-loop-group

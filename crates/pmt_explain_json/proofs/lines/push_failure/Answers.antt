@@ -1,7 +1,7 @@
 use Rattle.std.proofs.Common.{ap, ◌∙◌, ◌++◌}
 use Rattle.serde_json.specs.Data.{Data}
 use Rattle.serde_json.specs.Written.{has_float}
-use Rattle.pmt_explain_json.specs.Parts.{json_line}
+use Rattle.pmt_explain_json.specs.Entries.{json_line}
 use Rattle.pmt_explain_json.proofs.NoFloats.{failure-float}
 use Rattle.pmt_explain_json.proofs.lines.push_failure.Goals as goal
 

@@ -2,9 +2,7 @@ use Rattle.std.proofs.Common.{◌≡◌, ◌∷◌, [], ◌++◌, ap, ◌∙◌,
 use Rattle.std.proofs.lemmas.List.{take_all, take_more, flat_map_more, map-append}
 use Rattle.std.proofs.lemmas.List.Elements.{All-nil, All-push}
 use Rattle.std.specs.List.{flat_map}
-use Rattle.pmt_failures.specs.declared.failures.ShownCrash.{ShownCrash}
-use Rattle.pmt_failures.specs.declared.failures.ShownFailure.{ShownFailure}
-use Rattle.pmt_failures.specs.Showing.{IsShownCrash, AreShownCrashes}
+use Rattle.pmt_explanation.specs.Prelude.{ShownCrash, ShownFailure, IsShownCrash, AreShownCrashes}
 use Rattle.pmt_explain_json.specs.Entries.{failure_line}
 use Rattle.pmt_explain_json.proofs.lines.push_failures.Goals as goal
 

@@ -1,7 +1,6 @@
 use Rattle.std.proofs.Common.{◌≡◌, ◌++◌, List, take}
 use Rattle.std.specs.List.{flat_map}
-use Rattle.pmt_failures.specs.declared.failures.ShownCrash.{ShownCrash}
-use Rattle.pmt_failures.specs.Showing.{AreShownCrashes}
+use Rattle.pmt_explanation.specs.Prelude.{ShownCrash, AreShownCrashes}
 use Rattle.pmt_explain_json.specs.Entries.{failure_line}
 use Rattle.pmt_explain_json.proofs.lines.push_failures.Given as goal
 

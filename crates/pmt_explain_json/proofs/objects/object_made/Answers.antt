@@ -5,7 +5,7 @@ use Rattle.serde_json.specs.Data.{Members, put}
 use Rattle.serde_json.specs.View.{view, members_view}
 use Rattle.serde_json.specs.declared.value.Value.{Object}
 use Rattle.serde_json.proofs.Views.{view-Object}
-use Rattle.pmt_explain_json.specs.Parts.{IsMadeOf}
+use Rattle.pmt_explain_json.specs.Entries.{IsMadeOf}
 use Rattle.pmt_explain_json.proofs.objects.object_made.Goals as goal
 
 pub loop-key-preserved : goal.loop-key-preserved

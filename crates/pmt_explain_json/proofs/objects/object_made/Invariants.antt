@@ -1,6 +1,6 @@
 use Rattle.serde_json.specs.Data.{Data, no_members}
 use Rattle.serde_json.specs.View.{members_view}
-use Rattle.pmt_explain_json.specs.Parts.{IsMadeOf}
+use Rattle.pmt_explain_json.specs.Entries.{IsMadeOf}
 use Rattle.pmt_explain_json.proofs.objects.object_made.Given as goal
 
 abbrev pub invariant-loop-key : goal.invariant-loop-key

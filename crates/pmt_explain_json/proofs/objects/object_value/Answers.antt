@@ -3,7 +3,7 @@ use Rattle.std.proofs.lemmas.List.{nil_from_length}
 use Rattle.serde_json.specs.Data.{object}
 use Rattle.serde_json.specs.View.{members_view}
 use Rattle.serde_json.proofs.Views.{view-Object}
-use Rattle.pmt_explain_json.specs.Parts.{put_all}
+use Rattle.pmt_explain_json.specs.Entries.{put_all}
 use Rattle.pmt_explain_json.proofs.objects.object_value.Goals as goal
 
 pub loop-key-preserved : goal.loop-key-preserved

@@ -1,7 +1,7 @@
 use Rattle.std.proofs.Common.{◌≡◌}
 use Rattle.serde_json.specs.Data.{no_members}
 use Rattle.serde_json.specs.View.{members_view}
-use Rattle.pmt_explain_json.specs.Parts.{put_all}
+use Rattle.pmt_explain_json.specs.Entries.{put_all}
 use Rattle.pmt_explain_json.proofs.objects.object_value.Given as goal
 
 abbrev pub invariant-loop-key : goal.invariant-loop-key

@@ -1,5 +1,5 @@
 use Rattle.std.proofs.Common.{[], ◌∷◌}
-use Rattle.pmt_explain_json.specs.Parts.{unfenced_data}
+use Rattle.pmt_explain_json.specs.Entries.{unfenced_data}
 use Rattle.pmt_explain_json.proofs.Making.{◌also◌, object-made}
 use Rattle.pmt_explain_json.proofs.parts.unfenced_value.Goals as goal
 

@@ -2,7 +2,7 @@ use Rattle.std.proofs.Common.{◌≡◌, [], ◌∷◌, IfOk, refl, ap, subst, �
 use Rattle.serde_json.specs.Data.{string}
 use Rattle.serde_json.specs.View.{view}
 use Rattle.pmt_explain_json.specs.Lines.{summary_data}
-use Rattle.pmt_explain_json.specs.Parts.{count_data}
+use Rattle.pmt_explain_json.specs.Entries.{count_data}
 use Rattle.pmt_explain_json.proofs.Making.{◌also◌, object-made}
 use Rattle.pmt_explain_json.proofs.summary.summary_value.Goals as goal
 

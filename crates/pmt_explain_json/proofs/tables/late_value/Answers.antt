@@ -1,7 +1,7 @@
 use Rattle.std.proofs.Common.{◌≡◌, [], ◌∷◌, length, IfOk, subst, ap, ◌∙◌}
 use Rattle.serde_json.specs.View.{view}
-use Rattle.pmt_explain_json.specs.Parts.{count_data, event_data}
-use Rattle.pmt_explain_json.specs.Tables.{late_data}
+use Rattle.pmt_explain_json.specs.Entries.{count_data, event_data}
+use Rattle.pmt_explain_json.specs.Lines.{late_data}
 use Rattle.pmt_explain_json.proofs.Making.{◌also◌, object-made}
 use Rattle.pmt_explain_json.proofs.tables.late_value.Goals as goal
 

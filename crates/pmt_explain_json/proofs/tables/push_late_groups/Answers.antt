@@ -1,5 +1,5 @@
 use Rattle.std.proofs.Common.{ap, ◌∙◌, ◌++◌, arith}
-use Rattle.pmt_explain_json.specs.Tables.{late_line}
+use Rattle.pmt_explain_json.specs.Lines.{late_line}
 use Rattle.pmt_explain_json.proofs.Pushing.{all-pushed, lines-pushed}
 use Rattle.pmt_explain_json.proofs.tables.push_late_groups.Goals as goal
 

@@ -1,6 +1,6 @@
 use Rattle.std.proofs.Common.{◌≡◌, ◌++◌, drop}
 use Rattle.std.specs.List.{flat_map}
-use Rattle.pmt_explain_json.specs.Tables.{late_line}
+use Rattle.pmt_explain_json.specs.Lines.{late_line}
 use Rattle.pmt_explain_json.proofs.tables.push_late_groups.Given as goal
 
 abbrev pub invariant-loop-group : goal.invariant-loop-group

@@ -1,8 +1,7 @@
 use Rattle.std.proofs.Common.{rules, ◌≡◌, true, false, List, ◌++◌, ℕ, take}
 use Rattle.std.specs.List.{flat_map}
-use Rattle.pmt_explain_json.specs.Hints.{hint_line}
-use Rattle.pmt_explain_json.specs.Places.{place_line}
-use Rattle.pmt_explain_json.specs.Tables.{late_line, table_lines}
+use Rattle.pmt_explain_json.specs.Places.{hint_line, place_line}
+use Rattle.pmt_explain_json.specs.Lines.{late_line, table_lines}
 use Rattle.pmt_explain_json.proofs.Pushing.{pushed-4}
 use Rattle.pmt_explain_json.proofs.tables.push_tables.Goals as goal
 

@@ -1,8 +1,8 @@
 use Rattle.std.proofs.Common.{◌≡◌, [], ◌∷◌, IfOk, subst, ap, ◌∙◌}
 use Rattle.serde_json.specs.Data.{string}
 use Rattle.serde_json.specs.View.{view}
-use Rattle.pmt_explain_json.specs.Parts.{count_data, event_data, or_null}
-use Rattle.pmt_explain_json.specs.Weighed.{entry_data, sites_left}
+use Rattle.pmt_explain_json.specs.Entries.{count_data, event_data, or_null}
+use Rattle.pmt_explain_json.specs.Lines.{entry_data, sites_left}
 use Rattle.pmt_explain_json.proofs.Making.{◌also◌, object-made}
 use Rattle.pmt_explain_json.proofs.weighed.entry_value.Goals as goal
 

@@ -1,5 +1,5 @@
 use Rattle.std.proofs.Common.{arith}
-use Rattle.pmt_explain_json.specs.Weighed.{site_at}
+use Rattle.pmt_explain_json.specs.Lines.{site_at}
 use Rattle.pmt_explain_json.proofs.Arrays.{array-of-all}
 use Rattle.pmt_explain_json.proofs.Pushing.{value-pushed}
 use Rattle.pmt_explain_json.proofs.weighed.members_value.Goals as goal

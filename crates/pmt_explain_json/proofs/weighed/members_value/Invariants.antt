@@ -1,6 +1,6 @@
 use Rattle.std.proofs.Common.{◌≡◌, map, take}
 use Rattle.serde_json.specs.View.{view}
-use Rattle.pmt_explain_json.specs.Weighed.{site_at}
+use Rattle.pmt_explain_json.specs.Lines.{site_at}
 use Rattle.pmt_explain_json.proofs.weighed.members_value.Given as goal
 
 abbrev pub invariant-loop-member : goal.invariant-loop-member

@@ -1,5 +1,5 @@
 use Rattle.std.proofs.Common.{arith}
-use Rattle.pmt_explain_json.specs.Weighed.{entry_line}
+use Rattle.pmt_explain_json.specs.Lines.{entry_line}
 use Rattle.pmt_explain_json.proofs.Pushing.{all-pushed, lines-pushed}
 use Rattle.pmt_explain_json.proofs.weighed.push_entries.Goals as goal
 

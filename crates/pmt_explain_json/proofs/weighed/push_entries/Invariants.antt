@@ -1,6 +1,6 @@
 use Rattle.std.proofs.Common.{◌≡◌, ◌++◌, drop}
 use Rattle.std.specs.List.{flat_map}
-use Rattle.pmt_explain_json.specs.Weighed.{entry_line}
+use Rattle.pmt_explain_json.specs.Lines.{entry_line}
 use Rattle.pmt_explain_json.proofs.weighed.push_entries.Given as goal
 
 abbrev pub invariant-loop-entry : goal.invariant-loop-entry

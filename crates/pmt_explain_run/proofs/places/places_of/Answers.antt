@@ -2,8 +2,7 @@ use Rattle.std.proofs.Common.{◌≡◌, ◌+◌, ◌<◌, length, ◌∙◌, ap
 use Rattle.std.specs.Prelude.{unwrap_or}
 use Rattle.std.proofs.lemmas.List.{length-set}
 use Rattle.std.proofs.lemmas.Option.{slice_get_within}
-use Rattle.pmt_explain.specs.Following.{past_of}
-use Rattle.pmt_explain.specs.Saving.{TellsSafe}
+use Rattle.pmt_explain.specs.Following.{past_of, TellsSafe}
 use Rattle.pmt_explain_run.proofs.PlaceLemmas.{place-told, told-next}
 use Rattle.pmt_explain_run.proofs.places.places_of.Goals as goal
 

@@ -1,6 +1,6 @@
 use Rattle.std.proofs.Common.{◌≡◌, ℕ, suc, ◌<◌, length}
 use Rattle.std.specs.Prelude.{slice_get, Some}
-use Rattle.pmt_explain.specs.Saving.{TellsSafe}
+use Rattle.pmt_explain.specs.Following.{TellsSafe}
 use Rattle.pmt_explain_run.proofs.places.places_of.Given as goal
 
 abbrev pub invariant-loop-index : goal.invariant-loop-index

@@ -1,9 +1,6 @@
 use Rattle.std.proofs.Common.{rules}
 use Rattle.std.proofs.lemmas.Fn.{filter_same}
-use Rattle.pmt_causes.specs.declared.grouping.Keyed.{Keyed}
-use Rattle.pmt_causes.specs.declared.late.LateSpot.{LateSpot}
-use Rattle.pmt_asked.specs.Choosing.{is_asked_for}
-use Rattle.pmt_asked.specs.declared.choosing.Kind.TheVariants.{Late}
+use Rattle.pmt_explanation.specs.Prelude.{Keyed, LateSpot, is_asked_for, Late}
 use Rattle.pmt_explanation.proofs.asking.keep_asked.Goals as goal
 
 pub returns : goal.returns

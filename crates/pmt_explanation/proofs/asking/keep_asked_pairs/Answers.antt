@@ -1,7 +1,7 @@
 use Rattle.std.proofs.Common.{rules}
 use Rattle.std.proofs.lemmas.Fn.{filter_same}
 use Rattle.pmt_explain.specs.declared.overwritten_grouping.Overwriting.{Overwriting}
-use Rattle.pmt_explanation.specs.Asking.{is_pair_asked}
+use Rattle.pmt_explanation.specs.Explaining.{is_pair_asked}
 use Rattle.pmt_explanation.proofs.asking.keep_asked_pairs.Goals as goal
 
 pub returns : goal.returns

@@ -1,7 +1,7 @@
 use Rattle.std.proofs.Common.{rules, ◌≡◌, ℕ, ◌<◌, Bool, List, false, get_or, take, refl, subst, ◌∙◌, arith}
 use Rattle.std.proofs.lemmas.List.{get_or-replicate, take_all}
 use Rattle.pmt_model.specs.declared.event.Event.{Event}
-use Rattle.pmt_explanation.specs.Counting.{has_made}
+use Rattle.pmt_explanation.specs.Summing.{has_made}
 use Rattle.pmt_explanation.proofs.CountingLemmas.{AreCounted, counted-more, seen-more, threads-counted}
 use Rattle.pmt_explanation.proofs.counting.counts_of.Goals as goal
 

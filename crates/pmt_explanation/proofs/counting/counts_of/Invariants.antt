@@ -1,5 +1,5 @@
 use Rattle.std.proofs.Common.{◌≡◌, ℕ, ◌+◌, ◌<◌, ◌≤◌, false, get_or, length, take}
-use Rattle.pmt_explanation.specs.Counting.{has_made}
+use Rattle.pmt_explanation.specs.Summing.{has_made}
 use Rattle.pmt_explanation.proofs.CountingLemmas.{AreCounted}
 use Rattle.pmt_explanation.proofs.counting.counts_of.Given as goal
 

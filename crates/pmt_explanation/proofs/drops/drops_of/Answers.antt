@@ -1,8 +1,6 @@
 use Rattle.std.proofs.Common.{List, subst}
 use Rattle.std.specs.List.{filter_map}
-use Rattle.pmt_explain.specs.declared.dropped_event.Dropped.{Dropped}
-use Rattle.pmt_causes.specs.Dropped.{dropped_item}
-use Rattle.pmt_causes.specs.Groups.{AreGrouped}
+use Rattle.pmt_entries.specs.Prelude.{Dropped, dropped_item, AreGrouped}
 use Rattle.pmt_explanation.proofs.drops.drops_of.Goals as goal
 
 pub returns : goal.returns

@@ -1,5 +1,5 @@
 use Rattle.std.proofs.Common.{◌≡◌, subst, sym, take, map}
-use Rattle.pmt_explanation.specs.Causing.{first_members}
+use Rattle.pmt_explanation.specs.Explaining.{first_members}
 use Rattle.pmt_failures.specs.declared.failures.ShownFailure.{ShownFailure}
 use Rattle.pmt_explanation.proofs.CausingLemmas.{shown-firsts}
 use Rattle.pmt_explanation.proofs.explaining.explained.Goals as goal

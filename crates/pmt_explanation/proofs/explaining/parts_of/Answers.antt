@@ -1,5 +1,5 @@
 use Rattle.std.proofs.Common.{rules, subst}
-use Rattle.pmt_explanation.specs.Finding.{AreFound}
+use Rattle.pmt_explanation.specs.Explaining.{AreFound}
 use Rattle.pmt_explanation.proofs.explaining.parts_of.Goals as goal
 
 pub returns : goal.returns

@@ -1,9 +1,7 @@
 use Rattle.std.proofs.Common.{◌≡◌, List, ℕ, take, subst, ◌∙◌, ap}
-use Rattle.pmt_causes.specs.FailureKeys.{AreFailureGroups}
-use Rattle.pmt_explanation.specs.Asking.{asked_numbers}
-use Rattle.pmt_explanation.specs.Causing.{first_members}
-use Rattle.pmt_failures.specs.Showing.{AreShown}
-use Rattle.pmt_asked.specs.declared.choosing.Kind.TheVariants.{Failure}
+use Rattle.pmt_causes.specs.Groups.{AreFailureGroups}
+use Rattle.pmt_explanation.specs.Explaining.{asked_numbers, first_members}
+use Rattle.pmt_explanation.specs.Prelude.{AreShown, Failure}
 use Rattle.pmt_explanation.proofs.failed.failed_of.Goals as goal
 
 pub returns-clause-failing : goal.returns-clause-failing

@@ -1,11 +1,9 @@
 use Rattle.std.proofs.Common.{rules, subst}
 use Rattle.std.specs.Prelude.{IfOk}
 use Rattle.pmt_model.specs.Traces.{Recording}
-use Rattle.pmt_explain.specs.Dropping.{AreDropped}
-use Rattle.pmt_causes.specs.Late.{AreWaited}
+use Rattle.pmt_explanation.specs.Prelude.{AreDropped, AreWaited, is_asked_for}
 use Rattle.pmt_asked.specs.declared.choosing.Kind.TheVariants as kinds
-use Rattle.pmt_asked.specs.Choosing.{is_asked_for}
-use Rattle.pmt_explanation.specs.Causing.{AreAskedLate}
+use Rattle.pmt_explanation.specs.Explaining.{AreAskedLate}
 use Rattle.pmt_explanation.proofs.firsts.firsts_of.Goals as goal
 
 pub returns : goal.returns

@@ -1,7 +1,6 @@
 use Rattle.std.proofs.Common.{rules, subst}
 use Rattle.std.specs.Prelude.{IfOk}
-use Rattle.pmt_explanation.specs.Finding.{AreBroken, AreFirsts, AreLost}
-use Rattle.pmt_explanation.specs.Hinting.{AreEarly}
+use Rattle.pmt_explanation.specs.Explaining.{AreBroken, AreFirsts, AreLost, AreEarly}
 use Rattle.pmt_explanation.proofs.found.begun_of.Goals as goal
 
 pub returns : goal.returns

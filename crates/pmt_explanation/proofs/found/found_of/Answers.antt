@@ -1,7 +1,6 @@
 use Rattle.std.proofs.Common.{rules, subst}
 use Rattle.std.specs.Prelude.{IfOk}
-use Rattle.pmt_explanation.specs.Finding.{AreDrops, ArePlacesOf}
-use Rattle.pmt_explanation.specs.Hinting.{AreHints, AreLate}
+use Rattle.pmt_explanation.specs.Explaining.{AreDrops, ArePlacesOf, AreHints, AreLate}
 use Rattle.pmt_explanation.proofs.found.found_of.Goals as goal
 
 pub returns : goal.returns

@@ -1,5 +1,5 @@
 use Rattle.std.proofs.Common.{◌+◌, ◌∷◌, [], length, Option, ℕ, List, length-append, sym, ap, subst, arith}
-use Rattle.pmt_explanation.specs.Framing.{AreFrameNumbers}
+use Rattle.pmt_explanation.specs.Summing.{AreFrameNumbers}
 use Rattle.pmt_explanation.proofs.FramingLemmas.{frames-all, frames-more, label-at}
 use Rattle.pmt_explanation.proofs.frames.frame_numbers.Goals as goal
 

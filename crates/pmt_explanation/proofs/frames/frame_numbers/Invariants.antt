@@ -1,6 +1,5 @@
 use Rattle.std.proofs.Common.{◌≡◌, length}
-use Rattle.pmt_explanation.specs.Framing.{AreFirstFrames, AreFrameNumbers}
-use Rattle.pmt_explanation.specs.Numbering.{first_in}
+use Rattle.pmt_explanation.specs.Summing.{AreFirstFrames, AreFrameNumbers, first_in}
 use Rattle.pmt_explanation.proofs.frames.frame_numbers.Given as goal
 
 abbrev pub invariant-loop-index : goal.invariant-loop-index

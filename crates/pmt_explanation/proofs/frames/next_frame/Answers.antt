@@ -1,8 +1,6 @@
 use Rattle.std.proofs.Common.{rules, ◌≡◌, ◌+◌, Some, sym, ap, subst, ◌∙◌}
-use Rattle.pmt_asked.specs.Framing.{frame_of}
-use Rattle.pmt_explanation.specs.Framing.{IsFrameNumber}
-use Rattle.pmt_asked.specs.Labelling.{label_of}
-use Rattle.pmt_explanation.specs.Numbering.{IsLabelNumber, first_in}
+use Rattle.pmt_asked.specs.Choosing.{frame_of, label_of}
+use Rattle.pmt_explanation.specs.Summing.{IsFrameNumber, IsLabelNumber, first_in}
 use Rattle.pmt_explanation.proofs.FramingLemmas.{frame-by, number-before, number-new}
 use Rattle.pmt_explanation.proofs.frames.next_frame.Goals as goal
 

@@ -1,8 +1,6 @@
 use Rattle.std.proofs.Common.{subst}
-use Rattle.pmt_hints.specs.declared.hint.HintKind.TheVariants.{SplitWord, StoredAfterMark}
-use Rattle.pmt_hints.specs.Hints.{IsSplitWord, IsStoredAfterMark}
-use Rattle.pmt_hints.specs.Placing.{AreHintsOf}
-use Rattle.pmt_explanation.specs.Hinting.{AreHintsWith, AreOpenHints}
+use Rattle.pmt_entries.specs.Prelude.{SplitWord, StoredAfterMark, IsSplitWord, IsStoredAfterMark, AreHintsOf}
+use Rattle.pmt_explanation.specs.Explaining.{AreHintsWith, AreOpenHints}
 use Rattle.pmt_explanation.proofs.hinting.early_hints.Goals as goal
 
 pub returns : goal.returns

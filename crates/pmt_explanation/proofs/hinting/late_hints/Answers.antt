@@ -1,6 +1,5 @@
 use Rattle.std.proofs.Common.{subst}
-use Rattle.pmt_hints.specs.declared.hint.HintKind.TheVariants.{OneLineShort, StoredAfterFlush}
-use Rattle.pmt_hints.specs.Placing.{AreHintsOf}
+use Rattle.pmt_entries.specs.Prelude.{OneLineShort, StoredAfterFlush, AreHintsOf}
 use Rattle.pmt_explanation.proofs.hinting.late_hints.Goals as goal
 
 pub returns : goal.returns

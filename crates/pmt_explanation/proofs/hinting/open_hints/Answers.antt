@@ -1,6 +1,5 @@
 use Rattle.std.proofs.Common.{rules, ◌≡◌, ◌++◌, subst}
-use Rattle.pmt_hints.specs.declared.hint.HintKind.TheVariants.{OpenAtStore}
-use Rattle.pmt_hints.specs.Placing.{AreHintsOf, ArePathHintsOf}
+use Rattle.pmt_entries.specs.Prelude.{OpenAtStore, AreHintsOf, ArePathHintsOf}
 use Rattle.pmt_explanation.proofs.hinting.open_hints.Goals as goal
 
 pub returns : goal.returns

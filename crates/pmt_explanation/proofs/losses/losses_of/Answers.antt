@@ -1,10 +1,7 @@
 use Rattle.std.proofs.Common.{subst}
 use Rattle.std.specs.List.{filter_map}
-use Rattle.pmt_causes.specs.Groups.{AreGrouped}
-use Rattle.pmt_causes.specs.LostCauses.{lost_item}
-use Rattle.pmt_explain.specs.LostGroups.{AreLostGroups}
-use Rattle.pmt_explanation.specs.Asking.{asked_numbers}
-use Rattle.pmt_asked.specs.declared.choosing.Kind.TheVariants.{NeverPersisted}
+use Rattle.pmt_explanation.specs.Prelude.{AreGrouped, lost_item, AreLostGroups, NeverPersisted}
+use Rattle.pmt_explanation.specs.Explaining.{asked_numbers}
 use Rattle.pmt_explanation.proofs.losses.losses_of.Goals as goal
 
 pub returns-clause-groups : goal.returns-clause-groups

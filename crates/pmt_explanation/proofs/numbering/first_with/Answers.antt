@@ -1,6 +1,6 @@
 use Rattle.std.proofs.Common.{rules, ◌≡◌, ℕ, List, Option, Some, None, bytes_eq, if◌then◌else◌, unwrap_or, sym, ap, ◌∙◌}
 use Rattle.std.proofs.lemmas.Map.Text.{hash_map_updates_str}
-use Rattle.pmt_explanation.specs.Numbering.{first_in}
+use Rattle.pmt_explanation.specs.Summing.{first_in}
 use Rattle.pmt_explanation.proofs.numbering.first_with.Goals as goal
 
 pub returns-clause-firsts : goal.returns-clause-firsts

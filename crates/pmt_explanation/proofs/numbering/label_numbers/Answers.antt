@@ -1,5 +1,5 @@
 use Rattle.std.proofs.Common.{rules, ◌≡◌, ℕ, ◌+◌, List, ◌∷◌, ◌++◌, [], length, Option, sym, ap, subst, arith, length-append}
-use Rattle.pmt_explanation.specs.Numbering.{AreFirsts, AreLabelNumbers, IsLabelNumber, first_in}
+use Rattle.pmt_explanation.specs.Summing.{AreFirsts, AreLabelNumbers, IsLabelNumber, first_in}
 use Rattle.pmt_explanation.proofs.NumberingLemmas.{numbered-more}
 use Rattle.pmt_explanation.proofs.numbering.label_numbers.Goals as goal
 

@@ -1,5 +1,5 @@
 use Rattle.std.proofs.Common.{◌≡◌, length}
-use Rattle.pmt_explanation.specs.Numbering.{AreFirsts, AreLabelNumbers, first_in}
+use Rattle.pmt_explanation.specs.Summing.{AreFirsts, AreLabelNumbers, first_in}
 use Rattle.pmt_explanation.proofs.numbering.label_numbers.Given as goal
 
 abbrev pub invariant-loop-index : goal.invariant-loop-index

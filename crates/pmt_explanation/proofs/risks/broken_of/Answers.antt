@@ -1,11 +1,9 @@
 use Rattle.std.proofs.Common.{◌≡◌, take, subst, ap, ◌∙◌}
 use Rattle.pmt_model.specs.Traces.{Recording}
-use Rattle.pmt_causes.specs.FailureKeys.{AreFailureGroups}
+use Rattle.pmt_causes.specs.Groups.{AreFailureGroups}
 use Rattle.pmt_asked.specs.declared.choosing.Kind.TheVariants as kinds
-use Rattle.pmt_explanation.specs.Asking.{asked_numbers}
-use Rattle.pmt_explanation.specs.Causing.{first_members}
-use Rattle.pmt_failures.specs.Failing.{failing_events}
-use Rattle.pmt_failures.specs.Showing.{AreShown}
+use Rattle.pmt_explanation.specs.Explaining.{asked_numbers, first_members}
+use Rattle.pmt_failures.specs.Showing.{failing_events, AreShown}
 use Rattle.pmt_explanation.proofs.risks.broken_of.Goals as goal
 
 pub returns : goal.returns

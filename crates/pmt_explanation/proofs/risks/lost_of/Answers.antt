@@ -2,11 +2,10 @@ use Rattle.std.proofs.Common.{◌≡◌, ◌-◌, ℕ, List, length, subst, ap, 
 use Rattle.std.specs.Prelude.{count_by, is_some}
 use Rattle.pmt_model.specs.declared.finding.Finding.{Finding}
 use Rattle.pmt_model.specs.Traces.{Recording}
-use Rattle.pmt_explain.specs.LostGroups.{AreLostGroups}
-use Rattle.pmt_explanation.specs.Losing.{lost_store, told_stores}
+use Rattle.pmt_explain.specs.Grouping.{AreLostGroups}
+use Rattle.pmt_explanation.specs.Explaining.{lost_store, told_stores, asked_numbers, asked_unwritten}
 use Rattle.pmt_asked.specs.declared.choosing.Kind.TheVariants as kinds
-use Rattle.pmt_explanation.specs.Asking.{asked_numbers, asked_unwritten}
-use Rattle.pmt_failures.specs.Unwriting.{unwritten_of}
+use Rattle.pmt_failures.specs.Showing.{unwritten_of}
 use Rattle.pmt_explanation.proofs.risks.lost_of.Goals as goal
 
 pub returns : goal.returns

@@ -1,6 +1,5 @@
 use Rattle.std.proofs.Common.{rules, ◌≡◌, Some, None, refl, sym, subst}
-use Rattle.pmt_reasons.specs.Failures.{IsFailureAt}
-use Rattle.pmt_reasons.specs.Mends.{MendsFailure}
+use Rattle.pmt_explain.specs.Prelude.{IsFailureAt, MendsFailure}
 use Rattle.pmt_explain.specs.CauseOf.{IsCauseOf}
 use Rattle.pmt_failures.specs.declared.failures.ShownFailure.{ShownFailure}
 use Rattle.pmt_failures.specs.Showing.{IsShown, failure_mend}

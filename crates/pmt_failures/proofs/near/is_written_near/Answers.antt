@@ -1,6 +1,5 @@
 use Rattle.std.proofs.Common.{◌≡◌, ◌-◌, suc, length, Some, ap, arith}
-use Rattle.std.specs.List.{range_with_len}
-use Rattle.pmt_model.specs.Traces.{event}
+use Rattle.pmt_laws.specs.Prelude.{range_with_len, event}
 use Rattle.pmt_failures.proofs.UnwritingLemmas.{event-is, written-before}
 use Rattle.pmt_failures.proofs.near.is_written_near.Goals as goal
 

@@ -1,9 +1,8 @@
 use Rattle.std.proofs.Common.{sym, ap, ◌∙◌, arith}
 use Rattle.std.specs.Prelude.{if◌then◌else◌, None, Some}
-use Rattle.std.specs.List.{range_with_len}
+use Rattle.pmt_laws.specs.Prelude.{range_with_len, history}
 use Rattle.pmt_failures.proofs.UnwritingLemmas.{noted-before, none-told, told-same}
-use Rattle.pmt_model.specs.Traces.{history}
-use Rattle.pmt_failures.specs.Unwriting.{is_written}
+use Rattle.pmt_failures.specs.Showing.{is_written}
 use Rattle.pmt_failures.proofs.unwritten.unless_written.Goals as goal
 
 pub returns-then-is_written_near-clause-told : goal.returns-then-is_written_near-clause-told

@@ -1,5 +1,5 @@
 use Rattle.std.proofs.Common.{◌≡◌}
-use Rattle.pmt_failures.specs.Unwriting.{AreNoted, unwritten_among}
+use Rattle.pmt_failures.specs.Showing.{AreNoted, unwritten_among}
 use Rattle.pmt_failures.proofs.unwritten.unwritten_assertions.Given as goal
 
 abbrev pub invariant-loop-index : goal.invariant-loop-index

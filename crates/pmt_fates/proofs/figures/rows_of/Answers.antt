@@ -1,6 +1,5 @@
 use Rattle.std.proofs.Common.{◌≡◌, length, ap, ◌∙◌, arith}
-use Rattle.pmt_fates.specs.Figures.{rows_below}
-use Rattle.pmt_fates.specs.Tallying.{counts_in}
+use Rattle.pmt_fates.specs.Counting.{rows_below, counts_in}
 use Rattle.pmt_fates.proofs.figures.rows_of.Goals as goal
 
 pub returns : goal.returns

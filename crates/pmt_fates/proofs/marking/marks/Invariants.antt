@@ -1,5 +1,5 @@
 use Rattle.std.proofs.Common.{take}
-use Rattle.pmt_fates.specs.Marks.{AreMarks}
+use Rattle.pmt_fates.specs.Fates.{AreMarks}
 use Rattle.pmt_fates.proofs.marking.marks.Given as goal
 
 abbrev pub invariant-loop-number : goal.invariant-loop-number

@@ -1,5 +1,5 @@
 use Rattle.std.proofs.Common.{refl, ap, sym, ◌∙◌}
-use Rattle.pmt_fates.specs.Rows.{IsThere, row_place}
+use Rattle.pmt_fates.specs.Places.{IsThere, row_place}
 use Rattle.pmt_fates.proofs.rows.find.Goals as goal
 
 pub returns-in-Some : goal.returns-in-Some

@@ -1,6 +1,5 @@
-use Rattle.pmt_fates.specs.Places.{place_items}
-use Rattle.pmt_fates.specs.Rows.{row_place}
-use Rattle.pmt_fates.specs.Savers.{saved_by}
+use Rattle.pmt_fates.specs.Places.{place_items, row_place}
+use Rattle.pmt_fates.specs.Fates.{saved_by}
 use Rattle.pmt_fates.proofs.RowLemmas.{AreSoFar}
 use Rattle.pmt_fates.proofs.rows.rows_of.Given as goal
 

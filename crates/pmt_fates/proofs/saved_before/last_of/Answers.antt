@@ -1,6 +1,6 @@
 use Rattle.std.proofs.Common.{◌≡◌, ◌+◌, suc, get_or, refl, subst, sym, arith}
 use Rattle.std.proofs.lemmas.Option.{none-some, slice_get-get_or}
-use Rattle.pmt_fates.specs.Savers.{IsLastBefore}
+use Rattle.pmt_fates.specs.Fates.{IsLastBefore}
 use Rattle.pmt_fates.proofs.SaverLemmas.{last-next, last-pushed, last-start}
 use Rattle.pmt_fates.proofs.saved_before.last_of.Goals as goal
 

@@ -2,9 +2,8 @@ use Rattle.std.proofs.Common.{rules, ◌≡◌, ◌+◌, suc, ◌<◌, length, S
 use Rattle.std.specs.Prelude.{slice_get, slice_index}
 use Rattle.std.proofs.lemmas.Option.{slice_get-get_or}
 use Rattle.pmt_model.specs.Traces.{event}
-use Rattle.pmt_explain.specs.Following.{past_of}
-use Rattle.pmt_explain.specs.Saving.{TellsSafe}
-use Rattle.pmt_fates.specs.Savers.{AreSavers}
+use Rattle.pmt_explain.specs.Following.{past_of, TellsSafe}
+use Rattle.pmt_fates.specs.Fates.{AreSavers}
 use Rattle.pmt_fates.proofs.SaverLemmas.{savers-next, savers-start}
 use Rattle.pmt_fates.proofs.saved_before.savers_of.Goals as goal
 

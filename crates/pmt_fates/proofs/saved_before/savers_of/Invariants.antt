@@ -1,4 +1,4 @@
-use Rattle.pmt_fates.specs.Savers.{AreSavers}
+use Rattle.pmt_fates.specs.Fates.{AreSavers}
 use Rattle.pmt_fates.proofs.saved_before.savers_of.Given as goal
 
 abbrev pub invariant-loop-index : goal.invariant-loop-index

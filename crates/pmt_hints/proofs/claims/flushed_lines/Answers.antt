@@ -1,11 +1,11 @@
 use Rattle.std.proofs.Common.{refl, subst, arith}
 use Rattle.std.proofs.lemmas.List.{take_all}
 use Rattle.pmt_hints.specs.Claiming.{AreAsked}
-use Rattle.pmt_hints.proofs.ClaimLemmas.{asked-more}
+use Rattle.pmt_hints.proofs.ClaimLemmas.{asked-more, asked-none}
 use Rattle.pmt_hints.proofs.claims.flushed_lines.Goals as goal
 
 pub loop-number-init : goal.loop-number-init
-loop-number-init c = λ j t l has flush. absurd has
+loop-number-init c = asked-none c.args.trace.now c.new-claims.result c.new-claims.ensures.empty
 
 pub loop-number-preserved : goal.loop-number-preserved
 loop-number-preserved c =

@@ -2,8 +2,7 @@ use Rattle.std.proofs.Common.{◌≡◌, ◌+◌, ◌-◌, ℕ, suc, ◌<◌, le
 use Rattle.std.specs.Prelude.{slice_get}
 use Rattle.std.proofs.lemmas.List.{length-set}
 use Rattle.std.proofs.lemmas.Option.{slice_get-get_or, slice_get_within}
-use Rattle.pmt_model.specs.Machine.{Flushes}
-use Rattle.pmt_model.specs.Traces.{IsAct, act, act_of, event}
+use Rattle.pmt_laws.specs.Prelude.{Flushes, IsAct, act, act_of, event}
 use Rattle.pmt_explain.specs.Following.{IsFirst, past_of}
 use Rattle.pmt_explain.proofs.FollowingLemmas.{told-set}
 use Rattle.pmt_hints.specs.Contrasts.{IsStoreElsewhere}

@@ -1,7 +1,6 @@
 use Rattle.std.proofs.Common.{◌≡◌, ℕ, suc, ◌≤◌, length}
 use Rattle.std.specs.Prelude.{slice_get, Some}
-use Rattle.pmt_model.specs.Machine.{Flushes}
-use Rattle.pmt_model.specs.Traces.{IsAct}
+use Rattle.pmt_laws.specs.Prelude.{Flushes, IsAct}
 use Rattle.pmt_explain.specs.Following.{IsFirst, past_of}
 use Rattle.pmt_hints.specs.Contrasts.{IsStoreElsewhere}
 use Rattle.pmt_hints.proofs.OpenAtLemmas.{StoresFrom}

@@ -1,10 +1,9 @@
 use Rattle.std.proofs.Common.{◌≡◌, ℕ, Bool, get_or, take, sym, ap, ◌∙◌, arith}
 use Rattle.std.specs.Prelude.{◌||◌}
-use Rattle.std.specs.List.{list_any}
+use Rattle.pmt_laws.specs.Prelude.{list_any, event}
 use Rattle.std.proofs.lemmas.List.{take_all}
 use Rattle.std.proofs.lemmas.List.Folds.{list_any_more}
-use Rattle.pmt_model.specs.Traces.{event}
-use Rattle.pmt_hints.specs.Telling.{has_place, is_place, place_of}
+use Rattle.pmt_hints.specs.Contrasts.{has_place, is_place, place_of}
 use Rattle.pmt_hints.proofs.TellingLemmas.{closed-more}
 use Rattle.pmt_hints.proofs.open_at.closed_places.Goals as goal
 

@@ -1,5 +1,5 @@
 use Rattle.std.proofs.Common.{take}
-use Rattle.pmt_hints.specs.Telling.{AreClosed}
+use Rattle.pmt_hints.specs.Contrasts.{AreClosed}
 use Rattle.pmt_hints.proofs.open_at.closed_places.Given as goal
 
 abbrev pub invariant-loop-number : goal.invariant-loop-number

@@ -1,17 +1,12 @@
 use Rattle.std.proofs.Common.{sym, subst}
-use Rattle.pmt_model.specs.Selections.{IsRising}
-use Rattle.pmt_hints.specs.Parting.{AreParted}
-use Rattle.pmt_hints.proofs.PartingLemmas.{open-those}
+use Rattle.pmt_hints.specs.Hints.{AreThose, IsOpenAtStore}
+use Rattle.pmt_hints.proofs.SiftingLemmas.{open-those}
 use Rattle.pmt_hints.proofs.open_at.open_at_store.Goals as goal
 
-pub parted_flushes-requires : goal.parted_flushes-requires
-parted_flushes-requires c = subst (λ ks. IsRising 0 ks) (sym c.numbers.ensures.value) c.numbers.ensures.rising
-
 pub selection_of-requires : goal.selection_of-requires
-selection_of-requires c = c.in_ok-passed.ensures.rising
+selection_of-requires c = (open-those c.args.trace.now _ _ _ _ _ c.numbers.ensures.value c.as_slice.ensures.value c.requires c.in_ok-flags.ensures c.in_ok-open.ensures).rising
 
 pub returns : goal.returns
 returns c =
-    let passed = c.in_ok-passed.field-0.passed.items in
-    let others = c.in_ok-passed.field-0.others.items in
-    open-those c.args.trace.now c.args.kept.now c.selection_of.result passed others c.requires (subst (λ ks. AreParted c.args.trace.now ks passed others) c.numbers.ensures.value c.in_ok-passed.ensures) c.selection_of.ensures
+    let T = c.args.trace.now in
+    subst (AreThose (IsOpenAtStore T)) (sym c.selection_of.ensures) (open-those T _ _ _ _ _ c.numbers.ensures.value c.as_slice.ensures.value c.requires c.in_ok-flags.ensures c.in_ok-open.ensures)

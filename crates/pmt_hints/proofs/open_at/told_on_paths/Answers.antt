@@ -1,9 +1,10 @@
 use Rattle.std.proofs.Common.{sym, ap, subst, ◌∙◌}
 use Rattle.std.proofs.lemmas.Bool.{eqb-true}
-use Rattle.std.specs.List.{filter}
-use Rattle.pmt_model.specs.Selections.{IsRising}
-use Rattle.pmt_hints.specs.Telling.{AreClosed, told_so}
-use Rattle.pmt_hints.proofs.PathLemmas.{none-same, none-told, on-paths}
+use Rattle.pmt_laws.specs.Prelude.{filter, IsRising}
+use Rattle.pmt_hints.specs.Hints.{IsToldOnPath, IsToldOpen}
+use Rattle.pmt_hints.specs.Contrasts.{AreClosed, told_so}
+use Rattle.pmt_hints.proofs.PathLemmas.{none-same, on-paths}
+use Rattle.pmt_hints.proofs.NumberLemmas.{none-those}
 use Rattle.pmt_hints.proofs.OpenAtLemmas.{filter-rising}
 use Rattle.pmt_hints.proofs.open_at.told_on_paths.Goals as goal
 
@@ -14,7 +15,9 @@ pub returns-then-are_same : goal.returns-then-are_same
 returns-then-are_same c = none-same c.args.trace.now c.args.labels.now c.args.paths.now _ (c.are_same.ensures c.if-are_same.true) (c.selection_of.ensures ∙ c.new.ensures.items)
 
 pub returns-then-is_empty : goal.returns-then-is_empty
-returns-then-is_empty c = none-told c.args.trace.now c.args.labels.now c.args.paths.now c.in_ok-told.told c.in_ok-told.ensures (eqb-true _ _ (sym c.is_empty.ensures ∙ c.if-is_empty.true))
+returns-then-is_empty c =
+    let P = IsToldOpen c.args.trace.now c.args.paths.now in
+    none-those P (IsToldOnPath c.args.trace.now c.args.labels.now c.args.paths.now) c.in_ok-told.told c.in_ok-told.ensures (eqb-true _ _ (sym c.is_empty.ensures ∙ c.if-is_empty.true)) (λ i h. h.0)
 
 pub selection_of-requires-2 : goal.selection_of-requires-2
 selection_of-requires-2 c =

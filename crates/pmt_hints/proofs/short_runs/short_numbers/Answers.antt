@@ -5,7 +5,7 @@ use Rattle.std.proofs.lemmas.Option.{slice_get-get_or}
 use Rattle.pmt_model.specs.Traces.{act, act_of, event}
 use Rattle.pmt_hints.specs.GoingOn.{GoesFurther, IsRest, line_by}
 use Rattle.pmt_hints.specs.Hints.{GoesOn, IsOneLineShort}
-use Rattle.pmt_hints.specs.Judging.{AreUpTo}
+use Rattle.pmt_hints.specs.Claiming.{AreUpTo}
 use Rattle.pmt_hints.specs.Numbers.{flush_at}
 use Rattle.pmt_hints.proofs.GoingLemmas.{Tells, any-stores-none, any-stores-up, before-tells, left-tells, lines-none, lines-up, rest-tells}
 use Rattle.pmt_hints.proofs.NumberLemmas.{upto-more, upto-none, upto-those}

@@ -1,7 +1,7 @@
 use Rattle.std.specs.Prelude.{ℕ, ◌<◌, ◌≤◌}
 use Rattle.pmt_hints.specs.GoingOn.{GoesFurther, IsRest}
 use Rattle.pmt_hints.specs.Hints.{IsOneLineShort}
-use Rattle.pmt_hints.specs.Judging.{AreUpTo}
+use Rattle.pmt_hints.specs.Claiming.{AreUpTo}
 use Rattle.pmt_hints.specs.Numbers.{flush_at, of_thread}
 use Rattle.pmt_hints.proofs.GoingLemmas.{AnyStoresUpTo, LinesUpTo}
 use Rattle.pmt_hints.proofs.StoredAfterLemmas.{FencesUpTo}

@@ -1,5 +1,5 @@
 use Rattle.std.proofs.Common.{◌≡◌, false, sym, ap, ◌∙◌}
-use Rattle.pmt_hints.specs.Splitting.{may_join}
+use Rattle.pmt_hints.specs.GoingOn.{may_join}
 use Rattle.pmt_hints.proofs.SplitLemmas.{never-split}
 use Rattle.pmt_hints.proofs.split_word.is_split.Goals as goal
 

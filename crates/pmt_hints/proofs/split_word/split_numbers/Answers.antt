@@ -3,7 +3,7 @@ use Rattle.std.specs.Prelude.{slice_get}
 use Rattle.std.proofs.lemmas.Option.{slice_get-get_or}
 use Rattle.pmt_model.specs.Traces.{event}
 use Rattle.pmt_hints.specs.Hints.{IsSplitWord}
-use Rattle.pmt_hints.specs.Judging.{AreUpTo}
+use Rattle.pmt_hints.specs.Claiming.{AreUpTo}
 use Rattle.pmt_hints.proofs.NumberLemmas.{upto-more, upto-none, upto-those}
 use Rattle.pmt_hints.proofs.SplitLemmas.{split-bound, split-told, stores-none, stores-up}
 use Rattle.pmt_hints.proofs.split_word.split_numbers.Goals as goal

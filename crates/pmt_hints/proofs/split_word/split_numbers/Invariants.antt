@@ -1,5 +1,5 @@
 use Rattle.pmt_hints.specs.Hints.{IsSplitWord}
-use Rattle.pmt_hints.specs.Judging.{AreUpTo}
+use Rattle.pmt_hints.specs.Claiming.{AreUpTo}
 use Rattle.pmt_hints.proofs.SplitLemmas.{StoresUpTo}
 use Rattle.pmt_hints.proofs.split_word.split_numbers.Given as goal
 

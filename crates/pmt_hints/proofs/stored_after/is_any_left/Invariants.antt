@@ -1,5 +1,5 @@
 use Rattle.std.specs.Prelude.{◌≡◌, ℕ, ◌<◌, Some, false, length, slice_get}
-use Rattle.pmt_hints.specs.Judging.{left_unsafe}
+use Rattle.pmt_hints.specs.Claiming.{left_unsafe}
 use Rattle.pmt_hints.proofs.stored_after.is_any_left.Given as goal
 
 abbrev pub invariant-loop-index : goal.invariant-loop-index

@@ -3,7 +3,7 @@ use Rattle.std.proofs.lemmas.Grind.{elements}
 use Rattle.std.proofs.lemmas.List.{take-take, length-take}
 use Rattle.std.specs.Io.KnownBytes.{Appends}
 use Rattle.pmt_text.specs.Counting.{inner_device}
-use Rattle.pmt_image.specs.Persisting.{written_by}
+use Rattle.pmt_image.specs.Crashes.{written_by}
 use Rattle.pmt_image.proofs.CopyLemmas.{copied-piece}
 use Rattle.pmt_image.proofs.copying.copy_piece.Goals as goal
 

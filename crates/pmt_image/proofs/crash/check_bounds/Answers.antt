@@ -2,7 +2,7 @@ use Rattle.std.proofs.Common.{◌<◌, ◌≤◌, List, length, get_or, sym, sub
 use Rattle.std.specs.List.{AllByRecursion}
 use Rattle.std.proofs.lemmas.List.{drop_more}
 use Rattle.pmt_image.specs.declared.crash.LineStores.{LineStores}
-use Rattle.pmt_image.specs.Counts.{count_in, IsBetween}
+use Rattle.pmt_image.specs.Crashes.{count_in, IsBetween}
 use Rattle.pmt_image.proofs.crash.check_bounds.Goals as goal
 
 -- what stands past the end of a list

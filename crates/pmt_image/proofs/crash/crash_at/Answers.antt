@@ -1,9 +1,7 @@
 use Rattle.std.proofs.Common.{◌≡◌, ℕ, ◌∙◌}
 use Rattle.std.specs.Prelude.{if◌then◌else◌}
-use Rattle.pmt_model.specs.Traces.{count_at}
-use Rattle.pmt_model.specs.Fronts.{front_at}
-use Rattle.pmt_image.specs.Counts.{count_in}
-use Rattle.pmt_image.specs.Crashes.{asked_count}
+use Rattle.pmt_laws.specs.Prelude.{count_at, front_at}
+use Rattle.pmt_image.specs.Crashes.{count_in, asked_count}
 use Rattle.pmt_image.proofs.CountLemmas.{counts-same, chosen-first, chosen-second, box-may, box-with, box-base, between-same}
 use Rattle.pmt_image.proofs.crash.crash_at.Goals as goal
 use Rattle.pmt_image.proofs.crash.crash_at.Goals.{then-all, else-all}

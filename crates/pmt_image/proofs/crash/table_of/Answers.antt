@@ -1,5 +1,5 @@
 use Rattle.std.proofs.Common.{◌∙◌, rules}
-use Rattle.pmt_image.specs.Counts.{count_in}
+use Rattle.pmt_image.specs.Crashes.{count_in}
 use Rattle.pmt_image.proofs.CountLemmas.{counts-same}
 use Rattle.pmt_image.proofs.crash.table_of.Goals as goal
 

@@ -1,5 +1,5 @@
 use Rattle.std.proofs.Common.{◌-◌}
-use Rattle.pmt_image.specs.Choosing.{low_of, settings}
+use Rattle.pmt_image.specs.Crashes.{low_of, settings}
 use Rattle.pmt_image.proofs.NearLemmas.{grown-more}
 use Rattle.pmt_image.proofs.near.add_line.Goals as goal
 

@@ -2,7 +2,7 @@ use Rattle.std.proofs.Common.{◌<◌, List, length, sym, ap, arith}
 use Rattle.std.proofs.lemmas.Bool.{lt-ltb, le-ltb}
 use Rattle.std.proofs.lemmas.List.{drop_all}
 use Rattle.pmt_explain.specs.declared.lines.LineCount.{LineCount}
-use Rattle.pmt_image.specs.Choosing.{fronts_off}
+use Rattle.pmt_image.specs.Crashes.{fronts_off}
 use Rattle.pmt_image.proofs.NearLemmas.{off-next, off-same}
 use Rattle.pmt_image.proofs.near.is_farther.Goals as goal
 use Rattle.pmt_image.proofs.near.is_farther.Goals.{then-stores-line+else-off-most, else-stores-line}

@@ -1,7 +1,7 @@
 use Rattle.std.proofs.Common.{◌<◌, List, length, sym, ap, ◌∙◌, arith}
 use Rattle.std.proofs.lemmas.List.{drop_all}
 use Rattle.pmt_image.specs.declared.crash.LineStores.{LineStores}
-use Rattle.pmt_image.specs.Counts.{with_counts}
+use Rattle.pmt_image.specs.Crashes.{with_counts}
 use Rattle.pmt_image.proofs.NearLemmas.{told-next, told-same}
 use Rattle.pmt_image.proofs.near.stores_of.Goals as goal
 use Rattle.pmt_image.proofs.near.stores_of.Goals.{then-chosen-line, else-chosen-line}

@@ -1,5 +1,5 @@
 use Rattle.std.proofs.Common.{◌≡◌, drop}
-use Rattle.pmt_image.specs.Counts.{with_counts}
+use Rattle.pmt_image.specs.Crashes.{with_counts}
 use Rattle.pmt_image.proofs.near.stores_of.Given as goal
 
 abbrev pub invariant-loop-index : goal.invariant-loop-index

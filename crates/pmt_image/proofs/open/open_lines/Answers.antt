@@ -3,7 +3,7 @@ use Rattle.std.specs.Prelude.{if◌then◌else◌, ◌==◌}
 use Rattle.std.proofs.lemmas.List.{take_all}
 use Rattle.pmt_model.specs.Traces.{with_line}
 use Rattle.pmt_explain.specs.declared.lines.LineCount.{LineCount}
-use Rattle.pmt_explain.specs.Counting.{count_in}
+use Rattle.pmt_explain.specs.Crashes.{count_in}
 use Rattle.pmt_image.specs.declared.spans.StoreSpan.{StoreSpan}
 use Rattle.pmt_image.specs.Spans.{line_by, lines_of_spans, with_span}
 use Rattle.pmt_image.proofs.SpanLemmas.{mapped-same, newest-first}

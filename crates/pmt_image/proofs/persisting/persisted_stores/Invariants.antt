@@ -1,6 +1,5 @@
 use Rattle.pmt_model.specs.Traces.{history}
-use Rattle.pmt_image.specs.Crashes.{persisted_by}
-use Rattle.pmt_image.specs.Persisting.{AreFound}
+use Rattle.pmt_image.specs.Crashes.{persisted_by, AreFound}
 use Rattle.pmt_image.specs.Pools.{AllInside}
 use Rattle.pmt_image.proofs.persisting.persisted_stores.Given as goal
 

@@ -1,9 +1,8 @@
 use Rattle.std.proofs.Common.{◌≡◌, ℕ, suc, length}
 use Rattle.std.specs.Prelude.{slice_get, Some}
-use Rattle.pmt_model.specs.Machine.{Act}
-use Rattle.pmt_model.specs.Traces.{IsAct, count_at}
+use Rattle.pmt_laws.specs.Prelude.{Act, IsAct, count_at}
 use Rattle.pmt_image.specs.declared.spans.StoreSpan.{StoreSpan}
-use Rattle.pmt_image.specs.Counts.{count_in}
+use Rattle.pmt_image.specs.Crashes.{count_in}
 use Rattle.pmt_image.specs.Spans.{IsSpan}
 use Rattle.pmt_image.proofs.spans.store_spans.Given as goal
 

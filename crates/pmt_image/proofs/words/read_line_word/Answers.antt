@@ -1,6 +1,5 @@
 use Rattle.std.proofs.Common.{◌≡◌, ◌∙◌, sym, ap, arith, None, Some, option_map}
-use Rattle.pmt_text.specs.Fields.{address_in, number_in}
-use Rattle.pmt_text.specs.Reading.{capped}
+use Rattle.pmt_text.specs.Judging.{address_in, number_in, capped}
 use Rattle.pmt_image.proofs.WordLemmas.{IsCut, asks-this, no-address, no-address-past, no-colon, no-number}
 use Rattle.pmt_image.proofs.words.read_line_word.Goals as goal
 

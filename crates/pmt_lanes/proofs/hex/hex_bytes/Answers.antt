@@ -2,8 +2,7 @@
 use Rattle.std.proofs.Common.{ℕ, List, subst, sym, ap, ◌∙◌, take, arith, w64}
 use Rattle.std.specs.Int.{from_le_bytes}
 use Rattle.std.specs.Int.Digits.{AllBelowBase}
-use Rattle.pmt_lanes.specs.Digits.{is_hex_digit}
-use Rattle.pmt_lanes.specs.Lanes.{joined}
+use Rattle.pmt_lanes.specs.Digits.{is_hex_digit, joined}
 use Rattle.pmt_lanes.proofs.DigitLemmas.{bytes_read, nibbles-lt}
 use Rattle.pmt_lanes.proofs.RunLemmas.{is_found, not_found, run-take}
 use Rattle.pmt_lanes.proofs.hex.hex_bytes.Goals as goal

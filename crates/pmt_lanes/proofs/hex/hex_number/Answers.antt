@@ -2,8 +2,7 @@
 use Rattle.std.proofs.Common.{ℕ, List, subst, sym, ap, ◌∙◌, take, arith, w64}
 use Rattle.std.specs.Int.{from_be_bytes}
 use Rattle.std.specs.Int.Digits.{AllBelowBase}
-use Rattle.pmt_lanes.specs.Digits.{is_hex_digit}
-use Rattle.pmt_lanes.specs.Lanes.{joined}
+use Rattle.pmt_lanes.specs.Digits.{is_hex_digit, joined}
 use Rattle.pmt_lanes.proofs.DigitLemmas.{nibbles-lt, number_read}
 use Rattle.pmt_lanes.proofs.RunLemmas.{is_found, not_found, run-take}
 use Rattle.pmt_lanes.proofs.hex.hex_number.Goals.{else-text-eq48-via-then-text-eq48+else-count-ne1, else-text-eq48-via-else-text-eq48}

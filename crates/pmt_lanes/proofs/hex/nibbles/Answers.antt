@@ -1,7 +1,7 @@
 -- Each lane is the value of its digit.
 use Rattle.std.proofs.Common.{bit_and, cond, leb, refl, ◌∙◌}
 use Rattle.std.proofs.lemmas.Simd.{splat_is_map, zip2_of_maps, zip2_splat}
-use Rattle.pmt_lanes.specs.Lanes.{nibble}
+use Rattle.pmt_lanes.specs.Digits.{nibble}
 use Rattle.pmt_lanes.proofs.LaneLemmas.{choice, same_values}
 use Rattle.pmt_lanes.proofs.hex.nibbles.Goals as goal
 

@@ -1,9 +1,8 @@
 use Rattle.std.proofs.Common.{◌≡◌, [], get_or, set, sym, ap, subst, ◌∙◌, arith}
 use Rattle.std.proofs.lemmas.Grind.{elements}
 use Rattle.std.specs.Prelude.{nat_eq, slice_get}
-use Rattle.std.specs.List.{IsDistinct}
+use Rattle.pmt_laws.specs.Prelude.{IsDistinct, with_line}
 use Rattle.std.proofs.lemmas.List.{get_or_default}
-use Rattle.pmt_model.specs.Traces.{with_line}
 use Rattle.pmt_lines.specs.Jobs.{LineWork, last_number, with_step, with_job, TakesOnLine}
 use Rattle.pmt_lines.proofs.PlaceLemmas.{takes_on_line, insert_key-with_line, end_before-with_job, has_line-from_new, has_line-from_old, with_job-new, with_job-old}
 use Rattle.pmt_lines.proofs.splitter.take_on_line.Goals as goal

@@ -1,7 +1,7 @@
 use Rattle.std.proofs.Common.{arith, ◌≡◌, Err, rules}
 use Rattle.std.proofs.lemmas.Grind.{elements}
 use Rattle.pmt_taking.specs.declared.taking.TakeError.TheVariants.{OutOfMemory}
-use Rattle.pmt_taking.specs.Blocks.{shown_by}
+use Rattle.pmt_taking.specs.Sourcing.{shown_by}
 use Rattle.pmt_taking.proofs.SourceRunLemmas.{counts-refused, so_far-more, so_far-none, so_far-all}
 use Rattle.pmt_lines.proofs.splitting.split_source.Goals as goal
 

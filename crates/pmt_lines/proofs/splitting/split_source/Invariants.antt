@@ -1,5 +1,5 @@
 use Rattle.pmt_lines.specs.Splitters.{HasTaken}
-use Rattle.pmt_taking.specs.Blocks.{shown_by}
+use Rattle.pmt_taking.specs.Sourcing.{shown_by}
 use Rattle.pmt_taking.proofs.SourceRunLemmas.{SoFar}
 use Rattle.pmt_lines.proofs.splitting.split_source.Given as goal
 

@@ -1,5 +1,5 @@
 use Rattle.std.proofs.Common.{◌≡◌, ◌<◌, ◌≤◌, length, length-take, get_or, ap, subst, ◌∙◌, arith}
-use Rattle.pmt_model.specs.Pushing.{empty}
+use Rattle.pmt_model.specs.Traces.{empty}
 use Rattle.pmt_lines.specs.Splitters.{HasTaken}
 use Rattle.pmt_lines.proofs.TakenLemmas.{first_events, first-more, first-all}
 use Rattle.pmt_lines.proofs.splitting.split_trace.Goals as goal

@@ -1,5 +1,5 @@
 use Rattle.std.proofs.Common.{arith}
-use Rattle.pmt_page.specs.Escapes.{embedded_byte}
+use Rattle.pmt_page.specs.Pages.{embedded_byte}
 use Rattle.pmt_page.proofs.Pushing.{piece-pushed, pieces-pushed}
 use Rattle.pmt_page.proofs.escapes.push_embedded.Goals as goal
 

@@ -1,6 +1,6 @@
 use Rattle.std.proofs.Common.{◌≡◌, ◌++◌, drop}
 use Rattle.std.specs.List.{flat_map}
-use Rattle.pmt_page.specs.Escapes.{html_byte}
+use Rattle.pmt_page.specs.Pages.{html_byte}
 use Rattle.pmt_page.proofs.escapes.push_html.Given as goal
 
 abbrev pub invariant-loop-byte : goal.invariant-loop-byte

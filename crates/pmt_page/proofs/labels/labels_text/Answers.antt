@@ -1,7 +1,7 @@
 use Rattle.std.proofs.Common.{List, ℕ, map, ap, ◌∙◌, ◌++◌}
 use Rattle.std.specs.Borrow.{Bor}
-use Rattle.pmt_page.specs.Escapes.{quoted}
-use Rattle.pmt_page.specs.Numbers.{listed, steps}
+use Rattle.pmt_page.specs.Pages.{quoted}
+use Rattle.pmt_page.specs.Columns.{listed, steps}
 use Rattle.pmt_page.proofs.Pushing.{more}
 use Rattle.pmt_page.proofs.labels.labels_text.Goals as goal
 

@@ -1,5 +1,5 @@
 use Rattle.std.proofs.Common.{◌∷◌, arith}
-use Rattle.pmt_page.specs.Blocks.{source_file}
+use Rattle.pmt_page.specs.Pages.{source_file}
 use Rattle.pmt_page.proofs.Pushing.{piece-pushed, pieces-pushed}
 use Rattle.pmt_page.proofs.sources.push_later_files.Goals as goal
 

@@ -2,9 +2,9 @@ use Rattle.std.proofs.Common.{◌≡◌, ℕ, Bool, ◌-◌, ◌++◌, filter, s
 use Rattle.std.specs.Prelude.{not}
 use Rattle.pmt_tables.proofs.FlagLemmas.{rising-no_fall}
 use Rattle.pmt_model.specs.Selections.{IsRising}
-use Rattle.pmt_asked.specs.Ignoring.{is_ignored}
-use Rattle.pmt_part_laws.specs.Laws.{stretch}
-use Rattle.pmt_parts.specs.Picking.{AreChosen}
+use Rattle.pmt_asked.specs.Choosing.{is_ignored}
+use Rattle.pmt_part_laws.specs.Parts.{stretch}
+use Rattle.pmt_parts.specs.Making.{AreChosen}
 use Rattle.pmt_parts.proofs.ChosenLemmas.{chosen_list, chosen-rising, chosen-are}
 use Rattle.pmt_parts.proofs.part.chosen_events.Goals as goal
 

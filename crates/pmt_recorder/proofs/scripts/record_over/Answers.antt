@@ -1,7 +1,7 @@
 use Rattle.std.proofs.Common.{◌≡◌, arith, map, ◌∙◌, sym, IfOk, IfErr}
 use Rattle.std.proofs.lemmas.Grind.{elements}
 use Rattle.std.proofs.lemmas.List.{length-map}
-use Rattle.pmt_model.specs.Formats.{first_version}
+use Rattle.pmt_model.specs.Values.{first_version}
 use Rattle.pmt_recorder.specs.Scripts.{IsRecorded, RecordFails}
 use Rattle.pmt_recorder.proofs.RecordLemmas.{told_fits, told-not_count, made-not_told, all_there, recorded_or_torn, torn-not_count}
 use Rattle.pmt_recorder.specs.declared.fault.RecordError.TheVariants.{BadCount as BadScripts}

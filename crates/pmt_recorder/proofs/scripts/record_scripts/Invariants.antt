@@ -1,5 +1,5 @@
 use Rattle.std.proofs.Common.{length}
-use Rattle.pmt_model.specs.Formats.{first_version}
+use Rattle.pmt_model.specs.Values.{first_version}
 use Rattle.pmt_recorder.proofs.scripts.record_scripts.Given as goal
 
 abbrev pub ghosts-record_over-L-Roll : goal.ghosts-record_over-L-Roll

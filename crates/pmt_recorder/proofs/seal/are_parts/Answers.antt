@@ -1,8 +1,7 @@
 -- What is left to compare, one event on.
 use Rattle.std.proofs.Common.{◌≡◌, ℕ, suc, ◌+◌, ◌<◌, length, drop, get_or, refl, ap, sym, subst, ◌∙◌, arith, rules}
 use Rattle.std.proofs.Math.ListN.{length-set}
-use Rattle.pmt_recorder.specs.Strips.{entries_of}
-use Rattle.pmt_recorder.specs.Places.{IsPlaceOf}
+use Rattle.pmt_recorder.specs.Strips.{entries_of, IsPlaceOf}
 use Rattle.pmt_recorder.proofs.PlaceLemmas.{next_entry, all_entries, part-ended, few-taken, rest-taken}
 use Rattle.pmt_recorder.proofs.seal.are_parts.Goals as goal
 

@@ -1,5 +1,5 @@
 use Rattle.std.proofs.Common.{◌≡◌, ℕ, suc, ◌<◌, ◌≤◌, length, drop, get_or}
-use Rattle.pmt_model.specs.Interleavings.{part, part_from}
+use Rattle.pmt_model.specs.Selections.{part, part_from}
 use Rattle.pmt_recorder.specs.Strips.{entries_of}
 use Rattle.pmt_recorder.proofs.seal.are_parts.Given as goal
 

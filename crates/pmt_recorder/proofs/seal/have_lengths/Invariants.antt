@@ -1,5 +1,5 @@
 use Rattle.std.proofs.Common.{ℕ, ◌<◌, get_or}
-use Rattle.pmt_recorder.specs.Places.{HasLength}
+use Rattle.pmt_recorder.specs.Strips.{HasLength}
 use Rattle.pmt_recorder.proofs.seal.have_lengths.Given as goal
 
 abbrev pub invariant-loop-thread : goal.invariant-loop-thread

@@ -1,5 +1,5 @@
 use Rattle.std.proofs.Common.{◌≡◌, ℕ, ◌<◌}
-use Rattle.pmt_model.specs.Interleavings.{part}
+use Rattle.pmt_model.specs.Selections.{part}
 use Rattle.pmt_recorder.specs.Strips.{entries_of}
 use Rattle.pmt_recorder.proofs.seal.lowest_torn.Given as goal
 

@@ -1,6 +1,6 @@
 use Rattle.std.proofs.Common.{◌≡◌, ◌≢◌, ℕ, get_or, arith, get_or-set_other, get_or-set_same, below_more, sym, subst, ◌∙◌}
 use Rattle.std.proofs.Math.ListN.{set, length-set}
-use Rattle.pmt_recorder.specs.Places.{IsPlaceOf}
+use Rattle.pmt_recorder.specs.Strips.{IsPlaceOf}
 use Rattle.pmt_recorder.proofs.seal.places_of.Goals as goal
 
 pub loop-thread-preserved : goal.loop-thread-preserved

@@ -1,5 +1,5 @@
 use Rattle.std.proofs.Common.{◌≡◌, ℕ, ◌<◌, length, get_or}
-use Rattle.pmt_recorder.specs.Places.{IsPlaceOf}
+use Rattle.pmt_recorder.specs.Strips.{IsPlaceOf}
 use Rattle.pmt_recorder.proofs.seal.places_of.Given as goal
 
 abbrev pub invariant-loop-thread : goal.invariant-loop-thread

@@ -2,7 +2,7 @@ use Rattle.std.proofs.Common.{arith, length, refl}
 use Rattle.std.proofs.lemmas.Grind.{elements}
 use Rattle.pmt_text.specs.Counting.{inner_device}
 use Rattle.pmt_tables.specs.Flags.{marked_from}
-use Rattle.pmt_report.specs.Checking.{IsCheckOf}
+use Rattle.pmt_report.specs.Checks.{IsCheckOf}
 use Rattle.pmt_report.specs.Reports.{report}
 use Rattle.pmt_report.specs.Runs.{coming_from_reader}
 use Rattle.pmt_report.proofs.RunLemmas.{check-told}

@@ -1,13 +1,12 @@
 use Rattle.std.proofs.Common.{rules, ◌≡◌, Ok, Err, sym, subst, arith}
 use Rattle.std.proofs.lemmas.Grind.{elements}
 use Rattle.std.proofs.lemmas.List.{length-append}
-use Rattle.pmt_model.specs.Pushing.{empty, with_events}
-use Rattle.pmt_model.specs.Traces.{Recording}
+use Rattle.pmt_laws.specs.Prelude.{empty, with_events, Recording}
 use Rattle.pmt_taking.specs.declared.taking.TakeError.TheVariants.{OutOfMemory}
-use Rattle.pmt_taking.specs.Blocks.{TakesBlock, shown_by}
+use Rattle.pmt_taking.specs.Sourcing.{TakesBlock, shown_by}
 use Rattle.pmt_sweep.specs.Passing.{HasSwept}
 use Rattle.pmt_text.specs.Sources.{CountsReads}
-use Rattle.pmt_report.specs.Blockwise.{IsTakenSoFar}
+use Rattle.pmt_report.specs.Checks.{IsTakenSoFar}
 use Rattle.pmt_report.proofs.BlockLemmas.{next-block, untold_fault, next-trace, untold, uncounted, unfaulted, refused-fault, refused-told, refused-counted}
 use Rattle.pmt_report.proofs.checked.take_others.Goals as goal
 

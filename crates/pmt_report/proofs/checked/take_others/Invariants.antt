@@ -1,10 +1,9 @@
 use Rattle.std.proofs.Common.{◌≡◌, ℕ, List, Option, suc, ◌+◌, ◌==◌, length}
 use Rattle.std.specs.Prelude.{if◌then◌else◌}
-use Rattle.pmt_model.specs.Traces.{Recording, IsTrace}
-use Rattle.pmt_model.specs.Pushing.{with_events}
-use Rattle.pmt_taking.specs.Blocks.{Shown, shown_by}
+use Rattle.pmt_laws.specs.Prelude.{Recording, IsTrace, with_events}
+use Rattle.pmt_taking.specs.Sourcing.{Shown, shown_by}
 use Rattle.pmt_sweep.specs.Passing.{HasSwept}
-use Rattle.pmt_report.specs.Blockwise.{IsTakenSoFar}
+use Rattle.pmt_report.specs.Checks.{IsTakenSoFar}
 use Rattle.pmt_report.proofs.checked.take_others.Given as goal
 
 abbrev pub invariant-take : goal.invariant-take

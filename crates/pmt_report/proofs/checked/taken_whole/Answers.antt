@@ -1,7 +1,6 @@
 use Rattle.std.proofs.Common.{ℕ, subst}
-use Rattle.pmt_model.specs.Values.{Layout}
-use Rattle.pmt_model.specs.Pushing.{empty}
-use Rattle.pmt_taking.specs.Blocks.{shown_by}
+use Rattle.pmt_laws.specs.Prelude.{Layout, empty}
+use Rattle.pmt_taking.specs.Sourcing.{shown_by}
 use Rattle.pmt_sweep.specs.Passing.{HasSwept}
 use Rattle.pmt_report.specs.declared.checked.Taken.{Taken}
 use Rattle.pmt_report.proofs.BlockLemmas.{first-block, fault-kept, told-kept, counts-kept}

@@ -1,7 +1,7 @@
 use Rattle.std.proofs.Common.{inl, inr, sym, subst, ◌∙◌}
 use Rattle.pmt_model.specs.declared.finding.Finding.{Finding}
-use Rattle.pmt_text.specs.LineTexts.{Puts}
-use Rattle.pmt_report.specs.Entries.{finding_entry}
+use Rattle.pmt_text.specs.Spelling.{Puts}
+use Rattle.pmt_report.specs.Reports.{finding_entry}
 use Rattle.pmt_report.proofs.NextLemmas.{verdict-told, finding-told, none-told}
 use Rattle.pmt_report.proofs.entry.spell_next.Goals as goal
 use Rattle.pmt_report.proofs.entry.spell_next.Goals.{in_default, in-len1-up+else-is_before}

@@ -1,10 +1,8 @@
 use Rattle.std.proofs.Common.{◌≡◌, ◌<◌, Err, length, sym, subst, arith, rules}
 use Rattle.std.proofs.lemmas.Grind.{elements}
-use Rattle.pmt_model.specs.Pushing.{empty, with_event}
-use Rattle.pmt_model.specs.Values.{Layout}
-use Rattle.pmt_model.specs.Traces.{IsEventIn}
+use Rattle.pmt_laws.specs.Prelude.{empty, with_event, Layout, IsEventIn}
 use Rattle.pmt_taking.specs.declared.taking.TakeError.TheVariants.{OutOfMemory}
-use Rattle.pmt_taking.specs.Blocks.{shown_by}
+use Rattle.pmt_taking.specs.Sourcing.{shown_by}
 use Rattle.pmt_taking.proofs.GrownLemmas.{length-grown}
 use Rattle.pmt_taking.proofs.SourceRunLemmas.{counts-refused, so_far-more, so_far-none, so_far-full, so_far-ended}
 use Rattle.pmt_report.proofs.first_lines.first_lines.Goals as goal

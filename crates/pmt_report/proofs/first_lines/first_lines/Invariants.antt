@@ -1,8 +1,8 @@
 use Rattle.std.proofs.Common.{◌≤◌, ℕ, List, Option}
 use Rattle.pmt_model.specs.Traces.{Recording}
-use Rattle.pmt_taking.specs.Blocks.{shown_by}
+use Rattle.pmt_taking.specs.Sourcing.{shown_by}
 use Rattle.pmt_taking.proofs.SourceRunLemmas.{SoFar}
-use Rattle.pmt_report.specs.FrontsOf.{AreLinesOf}
+use Rattle.pmt_report.specs.Reports.{AreLinesOf}
 use Rattle.pmt_report.proofs.first_lines.first_lines.Given as goal
 
 abbrev pub invariant-first : goal.invariant-first

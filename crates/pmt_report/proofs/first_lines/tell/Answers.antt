@@ -1,7 +1,5 @@
 use Rattle.std.proofs.Common.{◌≡◌, ◌∷◌, sym, subst, ap, ◌∙◌, arith, rules}
-use Rattle.pmt_model.specs.Machine.{Act, Stores, Flushes, Clflushes}
-use Rattle.pmt_model.specs.Values.{line_of}
-use Rattle.pmt_model.specs.Traces.{act, act_of, lines_of, with_line}
+use Rattle.pmt_laws.specs.Prelude.{Act, Stores, Flushes, Clflushes, line_of, act, act_of, lines_of, with_line}
 use Rattle.pmt_book.specs.Live.{IsLive}
 use Rattle.pmt_book.proofs.LiveLemmas.{has-slot, slot-in}
 use Rattle.pmt_report.proofs.first_lines.tell.Goals as goal

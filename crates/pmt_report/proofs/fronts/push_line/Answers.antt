@@ -1,8 +1,6 @@
 use Rattle.std.proofs.Common.{arith, ◌≡◌, ℕ, ◌*◌, List, ◌++◌, length, ap, ◌∙◌, subst, OnOk}
 use Rattle.std.proofs.lemmas.Grind.{elements}
-use Rattle.pmt_model.specs.Values.{Layout}
-use Rattle.pmt_model.specs.Traces.{history, count_at, lines_of}
-use Rattle.pmt_model.specs.Fronts.{front_at}
+use Rattle.pmt_laws.specs.Prelude.{Layout, history, count_at, lines_of, front_at}
 use Rattle.pmt_book.proofs.LiveLemmas.{has-slot, slot-in}
 use Rattle.pmt_report.specs.Reports.{front_entry, line_entry}
 use Rattle.pmt_report.proofs.fronts.push_line.Goals as goal

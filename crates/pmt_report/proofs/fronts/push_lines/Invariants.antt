@@ -1,8 +1,6 @@
 use Rattle.std.proofs.Common.{◌≡◌, ◌++◌, length, drop}
-use Rattle.std.specs.List.{flat_map}
-use Rattle.pmt_model.specs.Traces.{Recording}
-use Rattle.pmt_report.specs.FrontsOf.{AreLinesOf}
-use Rattle.pmt_report.specs.Reports.{line_entry}
+use Rattle.pmt_laws.specs.Prelude.{flat_map, Recording}
+use Rattle.pmt_report.specs.Reports.{AreLinesOf, line_entry}
 use Rattle.pmt_report.proofs.fronts.push_lines.Given as goal
 
 abbrev pub invariant-loop-slot : goal.invariant-loop-slot

@@ -1,5 +1,5 @@
 use Rattle.std.proofs.Common.{◌≡◌, ◌+◌, ◌++◌, length}
-use Rattle.pmt_report.specs.Entries.{entries}
+use Rattle.pmt_report.specs.Reports.{entries}
 use Rattle.pmt_report.proofs.report.push_entries.Given as goal
 
 abbrev pub invariant-loop-findings : goal.invariant-loop-findings

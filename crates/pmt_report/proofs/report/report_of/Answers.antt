@@ -1,6 +1,5 @@
 use Rattle.std.proofs.Common.{ℕ, List, ◌++◌, ap, ◌∙◌}
-use Rattle.pmt_report.specs.Entries.{entries}
-use Rattle.pmt_report.specs.Reports.{report, report_head, report_end}
+use Rattle.pmt_report.specs.Reports.{entries, report, report_head, report_end}
 use Rattle.pmt_report.proofs.Pushing.{pushed-3}
 use Rattle.pmt_report.proofs.report.report_of.Goals as goal
 

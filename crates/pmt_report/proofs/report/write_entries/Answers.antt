@@ -1,6 +1,6 @@
 use Rattle.std.proofs.Common.{ℕ, ◌+◌, ◌≤◌, List, ◌++◌, length, ap, sym, ◌∙◌, arith}
 use Rattle.std.proofs.lemmas.Grind.{elements}
-use Rattle.pmt_report.specs.Entries.{entries}
+use Rattle.pmt_report.specs.Reports.{entries}
 use Rattle.pmt_report.proofs.ChunkLemmas.{all-few, all-put, line-fails, way-on}
 use Rattle.pmt_report.proofs.NextLemmas.{none-left}
 use Rattle.pmt_report.proofs.report.write_entries.Goals as goal

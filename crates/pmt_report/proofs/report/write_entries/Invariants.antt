@@ -1,7 +1,7 @@
 use Rattle.std.proofs.Common.{◌≡◌, ℕ, ◌+◌, ◌≤◌, ◌++◌, List, length, Option}
 use Rattle.pmt_text.specs.Counting.{inner_device, failure_count}
-use Rattle.pmt_report.specs.Entries.{entries}
-use Rattle.pmt_report.specs.Chunking.{IsPut}
+use Rattle.pmt_report.specs.Reports.{entries}
+use Rattle.pmt_report.specs.Runs.{IsPut}
 use Rattle.pmt_report.proofs.ChunkLemmas.{IsUnderWay}
 use Rattle.pmt_report.proofs.report.write_entries.Given as goal
 

@@ -2,8 +2,7 @@ use Rattle.std.proofs.Common.{[], ◌++◌, refl, sym, ◌∙◌, append_assoc, 
 use Rattle.std.proofs.lemmas.Grind.{elements}
 use Rattle.std.proofs.lemmas.List.{length-append}
 use Rattle.pmt_text.specs.Counting.{inner_device}
-use Rattle.pmt_report.specs.Entries.{entries}
-use Rattle.pmt_report.specs.Reports.{report_end}
+use Rattle.pmt_report.specs.Reports.{entries, report_end}
 use Rattle.pmt_report.proofs.ChunkLemmas.{is-report, report-ends, report-fails}
 use Rattle.pmt_report.proofs.report.write_report.Goals as goal
 

@@ -2,7 +2,7 @@ use Rattle.std.proofs.Common.{◌≡◌, ℕ, List, Option}
 use Rattle.pmt_model.specs.declared.event.Event.{Event}
 use Rattle.pmt_text.specs.declared.source.SourceState.TheVariants.{Open}
 use Rattle.pmt_text.specs.Sources.{Gives}
-use Rattle.pmt_report.specs.Taking.{KeepsCount}
+use Rattle.pmt_report.specs.Checks.{KeepsCount}
 use Rattle.pmt_report.proofs.taking.skip_events.Given as goal
 
 abbrev pub invariant-skip : goal.invariant-skip

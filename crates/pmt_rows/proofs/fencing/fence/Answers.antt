@@ -1,8 +1,7 @@
 use Rattle.std.proofs.Common.{◌-◌, ◌<◌, true, false, length, drop, refl, sym, ◌∙◌, arith}
 use Rattle.std.proofs.lemmas.List.{get_or_default, length-set}
 use Rattle.pmt_rows.specs.declared.open.OpenFlush.{OpenFlush}
-use Rattle.pmt_rows.specs.Waiting.{raise_all, waits}
-use Rattle.pmt_rows.specs.Fencing.{waits_all}
+use Rattle.pmt_rows.specs.Waiting.{raise_all, waits, waits_all}
 use Rattle.pmt_rows.proofs.FencingLemmas.{deciding-none, deciding-next, deciding-all, marks-raiser, marks-other}
 use Rattle.pmt_rows.proofs.fencing.fence.Goals as goal
 

@@ -1,6 +1,6 @@
 use Rattle.std.proofs.Common.{◌≡◌, ℕ, List, length}
 use Rattle.pmt_model.specs.Traces.{Recording}
-use Rattle.pmt_rows.specs.Fencing.{AreAtFence}
+use Rattle.pmt_rows.specs.Waiting.{AreAtFence}
 use Rattle.pmt_rows.proofs.FencingLemmas.{IsDeciding}
 use Rattle.pmt_rows.proofs.fencing.fence.Given as goal
 

@@ -1,7 +1,6 @@
 use Rattle.std.proofs.Common.{arith}
 use Rattle.std.proofs.lemmas.Grind.{elements}
-use Rattle.pmt_model.specs.Findings.{last_flush}
-use Rattle.pmt_model.specs.Traces.{history}
+use Rattle.pmt_laws.specs.Prelude.{last_flush, history}
 use Rattle.pmt_safety.specs.Safety.{last_line_store}
 use Rattle.pmt_rows.proofs.FencingLemmas.{line_in, placed, stays-at, chain-read, raises-at, rises-not, rises-so}
 use Rattle.pmt_rows.proofs.fencing.raise.Goals as goal

@@ -1,6 +1,5 @@
 use Rattle.std.proofs.Common.{◌≡◌, length, refl, sym, ap, subst, ◌∙◌, arith}
-use Rattle.std.specs.List.{refill}
-use Rattle.pmt_model.specs.Traces.{act}
+use Rattle.pmt_laws.specs.Prelude.{refill, act}
 use Rattle.pmt_laws.proofs.Histories.{act-within}
 use Rattle.pmt_slices.specs.Slices.{IsChosen, HasChosen}
 use Rattle.pmt_slices.proofs.TakenLemmas.{refill-all}

@@ -1,5 +1,4 @@
 use Rattle.std.proofs.Common.{◌≡◌, ◌<◌, ◌≤◌, ◌+◌, suc, false, true, length, refl, sym, ap, subst, ◌∙◌, arith}
-use Rattle.pmt_model.specs.Traces.{IsAct, act_of}
 use Rattle.pmt_explain.specs.Following.{IsFirst, IsFenceAfter, past_of}
 use Rattle.pmt_explain.proofs.FollowingLemmas.{event-at}
 use Rattle.pmt_slices.specs.Slices.{is_fence}

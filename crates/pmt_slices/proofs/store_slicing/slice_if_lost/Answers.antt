@@ -1,4 +1,4 @@
-use Rattle.std.proofs.Common.{◌<◌, ◌≤◌, length, arith}
+use Rattle.std.proofs.Common.{arith}
 use Rattle.pmt_slices.specs.Slices.{IsLostOrLate}
 use Rattle.pmt_slices.proofs.StoreSliceLemmas.{is-lost, is-late, is-neither}
 use Rattle.pmt_slices.proofs.store_slicing.slice_if_lost.Goals as goal

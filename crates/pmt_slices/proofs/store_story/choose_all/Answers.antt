@@ -4,7 +4,7 @@ use Rattle.std.proofs.lemmas.Option.{slice_get-get_or}
 use Rattle.pmt_model.specs.Traces.{event}
 use Rattle.pmt_slices.specs.declared.store_story.Turn.TheVariants as turn
 use Rattle.pmt_slices.specs.Slices.{IsChosen, Chooses}
-use Rattle.pmt_slices.specs.StoreStories.{turn_of}
+use Rattle.pmt_slices.specs.Stories.{turn_of}
 use Rattle.pmt_slices.proofs.StoreStoryLemmas.{IsOtherBy, NoStop, chooses-over, stop-over, other-here, chooses-here, chooses-all, chooses-stop}
 use Rattle.pmt_slices.proofs.store_story.choose_all.Goals as goal
 use Rattle.pmt_slices.proofs.store_story.choose_all.Goals.{then-event-thread+in-Nothing, then-event-thread+in-Other, else-event-thread}

@@ -1,5 +1,5 @@
 use Rattle.std.proofs.Common.{◌≡◌, ◌≤◌, ◌⊎◌}
-use Rattle.pmt_slices.specs.Taking.{TakesBytes}
+use Rattle.pmt_slices.specs.Slices.{TakesBytes}
 use Rattle.pmt_slices.proofs.unwritten.take_bytes.Given as goal
 
 abbrev pub invariant-loop-place : goal.invariant-loop-place

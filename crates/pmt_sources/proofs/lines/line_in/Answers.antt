@@ -1,6 +1,6 @@
 use Rattle.std.proofs.Common.{◌≡◌, ◌≤◌, ◌-◌, ◌+◌, suc, [], length, sym, ap, ◌∙◌, arith}
 use Rattle.std.proofs.lemmas.Bool.{eqb-true}
-use Rattle.pmt_sources.specs.Lines.{after_line, after_lines}
+use Rattle.pmt_sources.specs.Places.{after_line, after_lines}
 use Rattle.pmt_sources.proofs.LineLemmas.{after-more, ended, nothing}
 use Rattle.pmt_sources.proofs.lines.line_in.Goals as goal
 

@@ -1,7 +1,6 @@
 use Rattle.std.proofs.Common.{◌≡◌, ℕ, ◌≤◌, List, length, None, Some, option_map, sym, ap, ◌∙◌, arith}
 use Rattle.std.proofs.lemmas.Bool.{eqb-true, eqb-false}
-use Rattle.pmt_text.specs.Fields.{number_in}
-use Rattle.pmt_text.specs.Reading.{capped}
+use Rattle.pmt_text.specs.Judging.{number_in, capped}
 use Rattle.pmt_sources.proofs.LineLemmas.{nothing}
 use Rattle.pmt_sources.proofs.PlaceLemmas.{capped-above, capped-most, cut-at, none-without, read-as, read-line, read-none, uncapped}
 use Rattle.pmt_sources.proofs.place.place_of.Goals.{then-is_empty-via-then-is_empty, then-is_empty-via-else-is_empty+then-line-eq0, then-is_empty-via-else-is_empty+else-line-eq0+then-line-gt-MOST_LINE}

@@ -3,7 +3,7 @@ use Rattle.std.proofs.lemmas.List.{append-nil, map-append}
 use Rattle.std.proofs.lemmas.Iterator.{YieldsList-from_chars}
 use Rattle.std.proofs.lemmas.Iterator.Consumers.{YieldsList-end}
 use Rattle.std.proofs.lemmas.Str.{encodes-append}
-use Rattle.pmt_sources.specs.Visible.{sign}
+use Rattle.pmt_sources.specs.Places.{sign}
 use Rattle.pmt_sources.proofs.showing.visible.Goals as goal
 
 pub loop-letter-preserved : goal.loop-letter-preserved

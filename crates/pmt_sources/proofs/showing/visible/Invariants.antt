@@ -1,5 +1,5 @@
 use Rattle.std.proofs.Common.{string_bytes, ◌≡◌, encode_utf8_all, map}
-use Rattle.pmt_sources.specs.Visible.{sign}
+use Rattle.pmt_sources.specs.Places.{sign}
 use Rattle.pmt_sources.proofs.showing.visible.Given as goal
 
 abbrev pub invariant-loop-letter : goal.invariant-loop-letter

@@ -1,4 +1,4 @@
-use Rattle.pmt_sources.specs.Choosing.{Names}
+use Rattle.pmt_sources.specs.Places.{Names}
 use Rattle.pmt_sources.proofs.NamingLemmas.{decided, undecided}
 use Rattle.pmt_sources.proofs.under.is_named.Goals as goal
 

@@ -1,5 +1,5 @@
 use Rattle.std.proofs.Common.{rules, ◌≡◌, Some, arith}
-use Rattle.pmt_asked.specs.Framing.{frame_of}
+use Rattle.pmt_asked.specs.Choosing.{frame_of}
 use Rattle.pmt_sources.proofs.NamingLemmas.{named-by, one-word}
 use Rattle.pmt_sources.proofs.under.place_at.Goals as goal
 

@@ -1,6 +1,6 @@
 use Rattle.std.proofs.Common.{◌≡◌, ⊎_elim, get_or, sym, subst, ◌∙◌, arith}
 use Rattle.std.proofs.lemmas.Bool.{cases_lt, true≢false}
-use Rattle.pmt_sources.specs.Choosing.{Names}
+use Rattle.pmt_sources.specs.Places.{Names}
 use Rattle.pmt_sources.proofs.NamingLemmas.{names-too}
 use Rattle.pmt_sources.proofs.under.place_under.Goals as goal
 

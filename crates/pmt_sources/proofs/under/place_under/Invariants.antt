@@ -1,5 +1,5 @@
 use Rattle.std.proofs.Common.{ℕ, ◌<◌, get_or}
-use Rattle.pmt_sources.specs.Choosing.{Names}
+use Rattle.pmt_sources.specs.Places.{Names}
 use Rattle.pmt_sources.proofs.under.place_under.Given as goal
 
 abbrev pub invariant-loop-earlier : goal.invariant-loop-earlier

@@ -1,7 +1,7 @@
 use Rattle.std.proofs.Common.{◌∷◌, [], ◌++◌, sym, ap, ◌∙◌, arith}
 use Rattle.std.proofs.lemmas.List.{append-nil, take_all}
 use Rattle.pmt_tables.specs.declared.words.Overwrite.{Overwrite}
-use Rattle.pmt_sweep.specs.Adding.{overwritten}
+use Rattle.pmt_sweep.specs.Found.{overwritten}
 use Rattle.pmt_sweep.proofs.FindingLists.{overwritten-next}
 use Rattle.pmt_sweep.proofs.adding.push_overwritten.Goals as goal
 

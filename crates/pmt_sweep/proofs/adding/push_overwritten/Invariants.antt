@@ -1,5 +1,5 @@
 use Rattle.std.proofs.Common.{◌≡◌, ◌++◌, take}
-use Rattle.pmt_sweep.specs.Adding.{overwritten}
+use Rattle.pmt_sweep.specs.Found.{overwritten}
 use Rattle.pmt_sweep.proofs.adding.push_overwritten.Given as goal
 
 abbrev pub invariant-loop-index : goal.invariant-loop-index

@@ -1,9 +1,8 @@
 use Rattle.std.proofs.Common.{ℕ}
-use Rattle.pmt_model.specs.Traces.{Recording}
-use Rattle.pmt_model.specs.Values.{Span}
-use Rattle.pmt_tables.specs.Spans.{IsSpanned}
+use Rattle.pmt_laws.specs.Prelude.{Recording, Span}
+use Rattle.pmt_tables.specs.Slots.{IsSpanned}
 use Rattle.pmt_sweep.specs.Known.{IsKnownOf}
-use Rattle.pmt_sweep.specs.Lines.{AreSafeFromBelow}
+use Rattle.pmt_sweep.specs.Judged.{AreSafeFromBelow}
 use Rattle.pmt_sweep.proofs.line_order.latest_of.Given as goal
 
 abbrev pub invariant-loop-line : goal.invariant-loop-line

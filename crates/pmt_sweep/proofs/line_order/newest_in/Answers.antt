@@ -1,6 +1,6 @@
 use Rattle.std.proofs.Common.{sym, subst}
 use Rattle.pmt_tables.specs.Lasts.{IsNewest}
-use Rattle.pmt_sweep.specs.Reading.{last_in_line}
+use Rattle.pmt_sweep.specs.Known.{last_in_line}
 use Rattle.pmt_sweep.proofs.ReadingLemmas.{newest-whole}
 use Rattle.pmt_sweep.proofs.LineLemmas.{inner-bytes}
 use Rattle.pmt_sweep.proofs.line_order.newest_in.Goals as goal

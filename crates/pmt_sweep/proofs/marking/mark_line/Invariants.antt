@@ -1,7 +1,6 @@
 use Rattle.std.proofs.Common.{ℕ, ◌<◌}
 use Rattle.pmt_model.specs.Traces.{Recording}
-use Rattle.pmt_sweep.specs.Entries.{IsLost}
-use Rattle.pmt_sweep.specs.Marking.{IsLineEnd}
+use Rattle.pmt_sweep.specs.Entries.{IsLost, IsLineEnd}
 use Rattle.pmt_sweep.proofs.MarkingLemmas.{IsWalking}
 use Rattle.pmt_sweep.proofs.marking.mark_line.Given as goal
 

@@ -1,7 +1,6 @@
 use Rattle.std.proofs.Common.{◌<◌, get_or, length, rules, arith}
 use Rattle.std.proofs.lemmas.Option.{slice_get-get_or}
-use Rattle.pmt_model.specs.Findings.{last_flush}
-use Rattle.pmt_model.specs.Traces.{history}
+use Rattle.pmt_laws.specs.Prelude.{last_flush, history}
 use Rattle.pmt_safety.specs.Safety.{last_line_store_at, safe_store_at}
 use Rattle.pmt_sweep.proofs.MarkedLemmas.{all_lines, marked-none, many-rows, line-ends, marked-next, after-next, marked-all, after-all}
 use Rattle.pmt_sweep.proofs.marking.mark_lost.Goals as goal

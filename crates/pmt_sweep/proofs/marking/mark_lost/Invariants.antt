@@ -1,6 +1,6 @@
 use Rattle.std.proofs.Common.{length}
 use Rattle.pmt_model.specs.Traces.{Recording}
-use Rattle.pmt_sweep.specs.Ends.{AreEndsOf}
+use Rattle.pmt_sweep.specs.Entries.{AreEndsOf}
 use Rattle.pmt_sweep.proofs.MarkedLemmas.{AreMarkedTo, AreLostAfterTo}
 use Rattle.pmt_sweep.proofs.marking.mark_lost.Given as goal
 

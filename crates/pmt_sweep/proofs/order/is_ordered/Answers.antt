@@ -1,8 +1,8 @@
 use Rattle.std.proofs.Common.{◌≡◌, inl, inr, ◌∙◌, sym, refl, subst, arith}
 use Rattle.std.proofs.lemmas.Bool.{cases_lt}
-use Rattle.pmt_tables.specs.Spans.{IsSpanned}
-use Rattle.pmt_sweep.specs.Lines.{IsLineOrdered}
-use Rattle.pmt_sweep.specs.Placed.{IsLineOf}
+use Rattle.pmt_tables.specs.Slots.{IsSpanned}
+use Rattle.pmt_sweep.specs.Judged.{IsLineOrdered}
+use Rattle.pmt_sweep.specs.Known.{IsLineOf}
 use Rattle.pmt_sweep.proofs.LineLemmas.{bare-above}
 use Rattle.pmt_sweep.proofs.OrderLemmas.{bare-ordered, ordered-by_lines, ordered-none}
 use Rattle.pmt_sweep.proofs.order.is_ordered.Goals as goal

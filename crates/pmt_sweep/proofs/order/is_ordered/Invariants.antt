@@ -1,8 +1,7 @@
 use Rattle.std.proofs.Common.{ℕ, ◌<◌}
 use Rattle.pmt_model.specs.Traces.{Recording}
 use Rattle.pmt_sweep.specs.Known.{IsKnownOf}
-use Rattle.pmt_sweep.specs.Lines.{IsLineOrdered}
-use Rattle.pmt_sweep.specs.Oldest.{AreOldestOf}
+use Rattle.pmt_sweep.specs.Judged.{IsLineOrdered, AreOldestOf}
 use Rattle.pmt_sweep.proofs.order.is_ordered.Given as goal
 
 abbrev pub invariant-loop-line : goal.invariant-loop-line

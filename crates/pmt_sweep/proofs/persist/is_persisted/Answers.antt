@@ -1,9 +1,9 @@
 use Rattle.std.proofs.Common.{◌≡◌, inl, inr, ◌∙◌, sym, refl, subst, arith}
 use Rattle.std.proofs.lemmas.Grind.{elements}
 use Rattle.std.proofs.lemmas.Bool.{cases_lt}
-use Rattle.pmt_tables.specs.Spans.{IsSpanned}
-use Rattle.pmt_sweep.specs.Lines.{IsLineSafe}
-use Rattle.pmt_sweep.specs.Placed.{IsLineOf}
+use Rattle.pmt_tables.specs.Slots.{IsSpanned}
+use Rattle.pmt_sweep.specs.Judged.{IsLineSafe}
+use Rattle.pmt_sweep.specs.Known.{IsLineOf}
 use Rattle.pmt_sweep.proofs.LineLemmas.{bare-above, bare-safe}
 use Rattle.pmt_sweep.proofs.OrderLemmas.{persist-by_lines}
 use Rattle.pmt_sweep.proofs.persist.is_persisted.Goals as goal

@@ -1,5 +1,5 @@
 use Rattle.std.proofs.Common.{arith}
-use Rattle.pmt_model.specs.Pushing.{empty}
+use Rattle.pmt_model.specs.Traces.{empty}
 use Rattle.pmt_sweep.proofs.GrowingLemmas.{swept-whole}
 use Rattle.pmt_sweep.proofs.sweeping.sweep.Goals as goal
 

@@ -1,6 +1,5 @@
 use Rattle.std.proofs.Common.{◌<◌, subst, sym, arith}
-use Rattle.pmt_tables.specs.Packed.{low_of, high_of, last_by}
-use Rattle.pmt_tables.specs.Lasts.{IsNewest, IsLeastAbove}
+use Rattle.pmt_tables.specs.Lasts.{low_of, high_of, last_by, IsNewest, IsLeastAbove}
 use Rattle.pmt_tables.proofs.ByteLemmas.{whole-newest, whole-oldest}
 use Rattle.pmt_tables.proofs.packed.number_in.Goals as goal
 

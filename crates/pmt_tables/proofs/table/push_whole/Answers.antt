@@ -1,6 +1,5 @@
 use Rattle.std.proofs.Common.{◌<◌, ◌++◌, ◌∷◌, [], sym, ap, subst, ◌∙◌, arith}
-use Rattle.pmt_tables.specs.Packed.{number_of, last_by}
-use Rattle.pmt_tables.specs.Lasts.{AddsOverwritten}
+use Rattle.pmt_tables.specs.Lasts.{number_of, last_by, AddsOverwritten}
 use Rattle.pmt_tables.proofs.AddingLemmas.{whole-added}
 use Rattle.pmt_tables.proofs.table.push_whole.Goals as goal
 

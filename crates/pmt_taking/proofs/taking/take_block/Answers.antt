@@ -1,6 +1,6 @@
 use Rattle.std.proofs.Common.{◌<◌, length, arith}
 use Rattle.std.proofs.lemmas.Grind.{elements}
-use Rattle.pmt_taking.specs.Blocks.{LeavesRest, shown_by}
+use Rattle.pmt_taking.specs.Sourcing.{LeavesRest, shown_by}
 use Rattle.pmt_taking.proofs.SourceRunLemmas.{BlockSoFar, block-more, block-ready, block-ended, event-leaves, refused-leaves, still-leaves}
 use Rattle.pmt_taking.proofs.taking.take_block.Goals as goal
 

@@ -1,5 +1,5 @@
 use Rattle.std.proofs.Common.{ℕ, List, Option}
-use Rattle.pmt_taking.specs.Blocks.{shown_by}
+use Rattle.pmt_taking.specs.Sourcing.{shown_by}
 use Rattle.pmt_taking.proofs.SourceRunLemmas.{BlockSoFar}
 use Rattle.pmt_taking.proofs.taking.take_block.Given as goal
 

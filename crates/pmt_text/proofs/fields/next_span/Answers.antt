@@ -1,5 +1,5 @@
 -- The address, the length and what is left are those of the first two fields.
-use Rattle.pmt_text.specs.Reading.{fields_left}
+use Rattle.pmt_text.specs.Judging.{fields_left}
 use Rattle.pmt_text.proofs.OpLemmas.{span-none, span-no_len, span-some}
 use Rattle.pmt_text.proofs.fields.next_span.Goals as goal
 

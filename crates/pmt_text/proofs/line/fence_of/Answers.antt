@@ -2,7 +2,7 @@
 use Rattle.std.proofs.Common.{◌≡◌, List, [], ◌∷◌, Err, refl, sym, ◌∙◌, ℕ}
 use Rattle.pmt_model.specs.declared.event.Op.{Op}
 use Rattle.pmt_text.specs.declared.kind.TextKind.TheVariants.{BadField}
-use Rattle.pmt_text.specs.Reading.{fence_of_fields, fields_left}
+use Rattle.pmt_text.specs.Judging.{fence_of_fields, fields_left}
 use Rattle.pmt_text.proofs.OpLemmas.{left-some}
 use Rattle.pmt_text.proofs.line.fence_of.Goals as goal
 

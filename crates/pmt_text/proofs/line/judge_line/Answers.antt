@@ -1,6 +1,6 @@
 -- At each return, what the line is judged as.
 use Rattle.std.proofs.Common.{◌∙◌, ap}
-use Rattle.pmt_text.specs.Reading.{fields_left, with_thread}
+use Rattle.pmt_text.specs.Judging.{fields_left, with_thread}
 use Rattle.pmt_text.proofs.JudgeLemmas.{line-no_word, line-no_thread, line-event}
 use Rattle.pmt_text.specs.JudgedEvents.{allowed_line}
 use Rattle.pmt_text.proofs.line.judge_line.Goals as goal

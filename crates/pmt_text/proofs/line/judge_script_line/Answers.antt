@@ -1,8 +1,7 @@
 -- At each return, what the line is judged as.
 use Rattle.std.proofs.Common.{◌∙◌, ap}
 use Rattle.pmt_model.specs.Values.{Layout}
-use Rattle.pmt_text.specs.Judging.{word_in}
-use Rattle.pmt_text.specs.Reading.{fields_left}
+use Rattle.pmt_text.specs.Judging.{word_in, fields_left}
 use Rattle.pmt_text.proofs.JudgeLemmas.{script_line-no_word, script_line-op}
 use Rattle.pmt_text.proofs.line.judge_script_line.Goals as goal
 

@@ -1,6 +1,6 @@
 -- At each return, what the one field is.
 use Rattle.std.proofs.Common.{sym, ◌∙◌}
-use Rattle.pmt_text.specs.Reading.{fields_left}
+use Rattle.pmt_text.specs.Judging.{fields_left}
 use Rattle.pmt_text.proofs.OpLemmas.{left-some, left-none, flushed-none, flushed-more, flushed-last, address-ok, address-err}
 use Rattle.pmt_text.proofs.line.last_address.Goals as goal
 

@@ -3,7 +3,7 @@ use Rattle.std.proofs.Common.{sym, ◌∙◌, ap}
 use Rattle.std.proofs.lemmas.Result.{err_from_is_err_and}
 use Rattle.pmt_model.specs.declared.event.Op.TheVariants.{Clwb, ClflushOpt, Clflush}
 use Rattle.pmt_text.specs.declared.word.Word.{Word}
-use Rattle.pmt_text.specs.Reading.{fields_left, op_of_fields}
+use Rattle.pmt_text.specs.Judging.{fields_left, op_of_fields}
 use Rattle.pmt_text.proofs.JudgeLemmas.{flush_of, flush-clwb, flush-clflushopt, flush-clflush, fence-sfence, fence-mfence}
 use Rattle.pmt_text.proofs.line.op_of.Goals as goal
 

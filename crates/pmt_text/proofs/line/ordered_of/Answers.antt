@@ -1,7 +1,7 @@
 -- At each return, what the fields are as an assertion on two spans.
 use Rattle.std.proofs.Common.{sym, ◌∙◌, ap, ap₂}
 use Rattle.std.proofs.lemmas.Result.{err_from_is_err_and}
-use Rattle.pmt_text.specs.Reading.{fields_left, span_checked}
+use Rattle.pmt_text.specs.Judging.{fields_left, span_checked}
 use Rattle.pmt_text.proofs.OpLemmas.{left-some, left-none}
 use Rattle.pmt_text.proofs.AssertLemmas.{ordered-none, ordered-one, ordered-more, ordered-last, ordered_of}
 use Rattle.pmt_text.proofs.line.ordered_of.Goals as goal

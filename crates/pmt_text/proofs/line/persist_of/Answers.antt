@@ -1,7 +1,7 @@
 -- At each return, what the fields are as an assertion on one span.
 use Rattle.std.proofs.Common.{sym, ◌∙◌, ap}
 use Rattle.std.proofs.lemmas.Result.{err_from_is_err_and}
-use Rattle.pmt_text.specs.Reading.{fields_left}
+use Rattle.pmt_text.specs.Judging.{fields_left}
 use Rattle.pmt_text.proofs.OpLemmas.{left-some, left-none}
 use Rattle.pmt_text.proofs.AssertLemmas.{persist-none, persist-more, persist-last, persisted_of}
 use Rattle.pmt_text.proofs.line.persist_of.Goals as goal

@@ -1,8 +1,7 @@
 -- At each return, what the fields are as a store.
 use Rattle.std.proofs.Common.{sym, ◌∙◌, ap, Err}
 use Rattle.pmt_text.specs.declared.kind.TextKind.{TextKind}
-use Rattle.pmt_text.specs.Fields.{bytes_in}
-use Rattle.pmt_text.specs.Reading.{fields_left}
+use Rattle.pmt_text.specs.Judging.{bytes_in, fields_left}
 use Rattle.pmt_text.proofs.OpLemmas.{left-some, left-none, store-none, store-alone, store-more, store-last, in_text}
 use Rattle.pmt_text.proofs.JudgeLemmas.{store-no_bytes, store-many_bytes, store-some_bytes}
 use Rattle.pmt_text.proofs.line.store_of.Goals as goal

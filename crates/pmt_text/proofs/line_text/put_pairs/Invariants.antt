@@ -1,7 +1,6 @@
 -- The digits of the last bytes are put.
 use Rattle.std.proofs.Common.{◌-◌, ◌*◌, ◌≤◌, length, drop}
-use Rattle.pmt_text.specs.LineTexts.{Puts}
-use Rattle.pmt_text.specs.Spelling.{hex_bytes}
+use Rattle.pmt_text.specs.Spelling.{Puts, hex_bytes}
 use Rattle.pmt_text.proofs.line_text.put_pairs.Given as goal
 
 abbrev pub invariant-loop-left : goal.invariant-loop-left

@@ -1,7 +1,6 @@
 -- Four digits, three, two and one.
 use Rattle.std.proofs.Common.{◌%◌, ℕ, List, [], ◌∷◌, refl, sym, ap, ◌∙◌, subst, arith, inr}
-use Rattle.pmt_text.specs.LineTexts.{Puts}
-use Rattle.pmt_text.specs.Spelling.{hex_pair}
+use Rattle.pmt_text.specs.Spelling.{Puts, hex_pair}
 use Rattle.pmt_text.proofs.LinePutting.{put-then, put-fewer}
 use Rattle.pmt_text.proofs.NumberWriting.{numeral-digit, numeral-two, numeral-three, numeral-four}
 use Rattle.pmt_text.proofs.line_text.put_short.Goals as goal

@@ -1,6 +1,6 @@
 -- What is left of the word to put stands in front of what was put.
 use Rattle.std.proofs.Common.{◌-◌, ◌≤◌, length, drop}
-use Rattle.pmt_text.specs.LineTexts.{Puts}
+use Rattle.pmt_text.specs.Spelling.{Puts}
 use Rattle.pmt_text.proofs.line_text.put_word.Given as goal
 
 abbrev pub invariant-loop-left : goal.invariant-loop-left

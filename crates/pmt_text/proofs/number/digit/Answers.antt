@@ -2,7 +2,7 @@
 use Rattle.std.proofs.Common.{◌≡◌, ℕ, ◌<◌, true, ◌==◌, get_or, refl, arith, eqb-true}
 use Rattle.std.proofs.lemmas.Bool.{agree_below_at}
 use Rattle.pmt_text.specs.declared.number.TheConstants.{DIGITS}
-use Rattle.pmt_text.specs.Reading.{digit_of}
+use Rattle.pmt_text.specs.Judging.{digit_of}
 use Rattle.pmt_text.proofs.number.digit.Goals as goal
 
 in_table : (c : ℕ) → c < 256 → get_or DIGITS c 0 ≡ digit_of c

@@ -1,8 +1,7 @@
 -- At each return, what the reader answers of the field.
 use Rattle.std.proofs.Common.{ℕ, List, option_map, ap, ◌∙◌, inl, inr}
 use Rattle.std.proofs.lemmas.List.{take_rest}
-use Rattle.pmt_text.specs.Fields.{number_in}
-use Rattle.pmt_text.specs.Reading.{capped}
+use Rattle.pmt_text.specs.Judging.{number_in, capped}
 use Rattle.pmt_text.proofs.FieldLemmas.{reads-address, reads-no_address}
 use Rattle.pmt_text.proofs.number.read_address.Goals as goal
 

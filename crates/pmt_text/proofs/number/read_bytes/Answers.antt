@@ -1,8 +1,7 @@
 -- At each return, what the reader answers of the field; and one pair of digits more.
 use Rattle.std.proofs.Common.{◌≡◌, ℕ, ◌+◌, ◌*◌, ◌<◌, ◌/◌, List, length, get_or, sym, ap, ap₂, ◌∙◌, arith, below_more, eqb-true}
 use Rattle.std.proofs.lemmas.Bool.{eqb-false}
-use Rattle.pmt_text.specs.Fields.{paired}
-use Rattle.pmt_text.specs.Reading.{digit_of}
+use Rattle.pmt_text.specs.Judging.{paired, digit_of}
 use Rattle.pmt_text.proofs.FieldLemmas.{gives-none, gives-pairs, written_more, digit_of-le, get_or-paired_digits, bytes_in-empty, bytes_in-odd, bytes_in-no_digit}
 use Rattle.pmt_text.proofs.number.read_bytes.Goals as goal
 use Rattle.pmt_text.proofs.number.read_bytes.Goals.{then-is_empty-via-then-is_empty, then-is_empty-via-else-is_empty+then-field-eq1, then-high-eq16-via-then-high-eq16, then-high-eq16-via-else-high-eq16+then-low-eq16, then-i-lt8, else-i-lt8}

@@ -1,7 +1,6 @@
 -- The first bytes are those of the pairs of digits so far.
 use Rattle.std.proofs.Common.{◌≡◌, ℕ, ◌+◌, ◌*◌, ◌<◌, length, get_or}
-use Rattle.pmt_text.specs.Fields.{paired}
-use Rattle.pmt_text.specs.Reading.{digit_of}
+use Rattle.pmt_text.specs.Judging.{paired, digit_of}
 use Rattle.pmt_text.proofs.number.read_bytes.Given as goal
 
 abbrev pub invariant-loop-i : goal.invariant-loop-i

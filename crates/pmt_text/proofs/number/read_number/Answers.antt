@@ -2,7 +2,7 @@
 use Rattle.std.proofs.Common.{◌≡◌, ℕ, ◌+◌, ◌*◌, ◌<◌, ◌≤◌, length, take, get_or, sym, ap, ◌∙◌, subst, arith, take_all, below_more, Some, eqb-true}
 use Rattle.std.proofs.lemmas.Bool.{eqb-false}
 use Rattle.std.specs.Str.Parse.{digits_value}
-use Rattle.pmt_text.specs.Reading.{capped, digit_of}
+use Rattle.pmt_text.specs.Judging.{capped, digit_of}
 use Rattle.pmt_text.proofs.NumberReading.{reads-empty, reads-leading_zero, reads-other, reads-digits, capped-more}
 use Rattle.pmt_text.proofs.number.read_number.Goals as goal
 use Rattle.pmt_text.proofs.number.read_number.Goals.{else-field-eq48-via-then-field-eq48+else-field-gt1, else-field-eq48-via-else-field-eq48}

@@ -1,7 +1,7 @@
 -- The number of the digits so far, all of which are digits of the base.
 use Rattle.std.proofs.Common.{◌≡◌, ℕ, ◌<◌, take, get_or}
 use Rattle.std.specs.Str.Parse.{digits_value}
-use Rattle.pmt_text.specs.Reading.{capped, digit_of}
+use Rattle.pmt_text.specs.Judging.{capped, digit_of}
 use Rattle.pmt_text.proofs.number.read_number.Given as goal
 
 abbrev pub invariant-loop-byte : goal.invariant-loop-byte

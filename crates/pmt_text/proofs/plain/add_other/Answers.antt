@@ -1,6 +1,6 @@
 -- The line has as many bytes as were taken.
 use Rattle.std.proofs.Common.{true, subst}
-use Rattle.pmt_text.specs.Plain.{Adds}
+use Rattle.pmt_text.specs.Spelled.{Adds}
 use Rattle.pmt_text.proofs.StoreReading.{adds-line}
 use Rattle.pmt_text.proofs.plain.add_other.Goals as goal
 

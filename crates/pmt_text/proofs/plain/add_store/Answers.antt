@@ -1,6 +1,6 @@
 -- The event of the store stands first in the line.
 use Rattle.std.proofs.Common.{true, subst}
-use Rattle.pmt_text.specs.Plain.{AddsStore}
+use Rattle.pmt_text.specs.Spelled.{AddsStore}
 use Rattle.pmt_text.proofs.StoreReading.{adds-store}
 use Rattle.pmt_text.proofs.plain.add_store.Goals as goal
 

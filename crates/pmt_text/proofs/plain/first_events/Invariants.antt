@@ -1,5 +1,5 @@
 use Rattle.std.proofs.Common.{◌-◌, ◌≤◌, ◌⊎◌, length}
-use Rattle.pmt_text.specs.Plain.{AreFirstEvents}
+use Rattle.pmt_text.specs.Spelled.{AreFirstEvents}
 use Rattle.pmt_text.proofs.plain.first_events.Given as goal
 
 abbrev pub invariant-line : goal.invariant-line

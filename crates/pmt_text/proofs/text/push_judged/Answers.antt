@@ -1,7 +1,6 @@
 -- The event that was judged is not added.
 use Rattle.std.proofs.Common.{◌≡◌, rules, subst, sym, Result, Ok, Err, IfOk}
-use Rattle.pmt_model.specs.declared.event.Event.{Event}
-use Rattle.pmt_model.specs.Traces.{IsEventIn}
+use Rattle.pmt_text.specs.Prelude.{Event, IsEventIn}
 use Rattle.pmt_text.specs.declared.kind.TextKind.{TextKind}
 use Rattle.pmt_text.specs.Texts.{AddsJudged}
 use Rattle.pmt_text.proofs.text.push_judged.Goals as goal

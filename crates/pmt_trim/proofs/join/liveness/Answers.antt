@@ -1,8 +1,6 @@
 use Rattle.std.proofs.Common.{◌≡◌, ℕ, length, [], get_or, map, take, Vec, Global, refl, sym, ap, subst, ◌∙◌, arith}
 use Rattle.std.proofs.lemmas.List.{get_or-map, take_all, length-map}
-use Rattle.pmt_model.specs.declared.event.Event.{Event}
-use Rattle.pmt_model.specs.Selections.{Has}
-use Rattle.pmt_model.specs.Traces.{history, lines_of}
+use Rattle.pmt_laws.specs.Prelude.{Event, Has, history, lines_of}
 use Rattle.pmt_trim.specs.Marking.{op_stays}
 use Rattle.pmt_trim.proofs.JoinLemmas.{MarksLists, marks-no_lists, marks-list, kept-at, kept-for_within, stay_marks, joined-answer}
 use Rattle.pmt_trim.proofs.join.liveness.Goals as goal

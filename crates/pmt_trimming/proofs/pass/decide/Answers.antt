@@ -2,13 +2,11 @@ use Rattle.std.proofs.Common.{◌-◌, ◌<◌, length, drop, get_or, refl, ap, 
 use Rattle.std.specs.Prelude.{nat_lt}
 use Rattle.std.proofs.lemmas.List.{get_or_default, length-set, length-map}
 use Rattle.std.proofs.lemmas.Option.{slice_get-get_or}
-use Rattle.pmt_model.specs.Findings.{last_flush}
-use Rattle.pmt_model.specs.Traces.{history}
+use Rattle.pmt_laws.specs.Prelude.{last_flush, history}
 use Rattle.pmt_safety.specs.Safety.{last_line_store, safe_store_at}
 use Rattle.pmt_rows.specs.declared.open.OpenFlush.{OpenFlush}
 use Rattle.pmt_rows.specs.Known.{row_after}
-use Rattle.pmt_rows.specs.Waiting.{raise_all}
-use Rattle.pmt_rows.specs.Fencing.{waits_all}
+use Rattle.pmt_rows.specs.Waiting.{raise_all, waits_all}
 use Rattle.pmt_rows.proofs.FencingLemmas.{line_in}
 use Rattle.pmt_trimming.proofs.FencingLemmas.{deciding-none, deciding-next, deciding-all, has-mark}
 use Rattle.pmt_trimming.proofs.pass.decide.Goals as goal

@@ -1,6 +1,6 @@
 use Rattle.std.proofs.Common.{◌≡◌, ℕ, List, length}
 use Rattle.pmt_model.specs.Traces.{Recording}
-use Rattle.pmt_trimming.specs.Fencing.{AreAtFence}
+use Rattle.pmt_trimming.specs.Passing.{AreAtFence}
 use Rattle.pmt_trimming.proofs.FencingLemmas.{IsDeciding}
 use Rattle.pmt_trimming.proofs.pass.decide.Given as goal
 

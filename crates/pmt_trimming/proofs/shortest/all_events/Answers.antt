@@ -1,8 +1,7 @@
 use Rattle.std.proofs.Common.{◌≡◌, ◌∙◌, ap}
 use Rattle.std.specs.Prelude.{IfOk}
-use Rattle.pmt_model.specs.Selections.{IsSelection, cut}
-use Rattle.pmt_model.specs.Shortest.{HasSameVectors}
-use Rattle.pmt_trimming.specs.AllEvents.{all_marks}
+use Rattle.pmt_laws.specs.Prelude.{IsSelection, cut, HasSameVectors}
+use Rattle.pmt_trimming.specs.Passing.{all_marks}
 use Rattle.pmt_trimming.proofs.AllEvents.{IsAll, all-answer, all-gives, all-cut, all-selection, all-same}
 use Rattle.pmt_trimming.proofs.shortest.all_events.Goals as goal
 use Rattle.pmt_trimming.proofs.shortest.all_events.Goals.{After-drop-marked}

@@ -1,9 +1,9 @@
 use Rattle.std.proofs.Common.{List, ℕ, ap, subst, length, rules, arith}
 use Rattle.std.proofs.lemmas.Grind.{elements}
 use Rattle.std.specs.Io.KnownBytes.{Appends}
-use Rattle.pmt_model.specs.Pushing.{empty}
+use Rattle.pmt_model.specs.Traces.{empty}
 use Rattle.pmt_text.specs.Counting.{inner_device}
-use Rattle.pmt_taking.specs.Blocks.{shown_by}
+use Rattle.pmt_taking.specs.Sourcing.{shown_by}
 use Rattle.pmt_taking.proofs.SourceRunLemmas.{so_far-none, so_far-more}
 use Rattle.pmt_trimming.proofs.FlowEnds.{memory-streams, source-streams, rest-streams, rest-told, rest-counts, first-streams, event-in, piece-fits, piece-streams, flow-more, showed}
 use Rattle.pmt_trimming.proofs.StreamLemmas.{lent-is}

@@ -1,8 +1,7 @@
 use Rattle.std.proofs.Common.{ℕ, ◌+◌, ◌≤◌, List, length}
-use Rattle.pmt_model.specs.declared.event.Event.{Event}
-use Rattle.pmt_model.specs.Traces.{Recording}
+use Rattle.pmt_laws.specs.Prelude.{Event, Recording}
 use Rattle.pmt_trimming.specs.Passing.{AreDecidedFrom, AreMarks}
-use Rattle.pmt_trimming.specs.WholeTexts.{HasLeftTo, IsHeldAt}
+use Rattle.pmt_trimming.specs.Streaming.{HasLeftTo, IsHeldAt}
 use Rattle.pmt_trimming.proofs.whole_text.pop_decided.Given as goal
 
 abbrev pub invariant-loop-index : goal.invariant-loop-index

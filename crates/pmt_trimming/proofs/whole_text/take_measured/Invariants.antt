@@ -1,6 +1,5 @@
 use Rattle.std.proofs.Common.{◌≡◌, ◌+◌, ◌≤◌, ◌++◌, length, map, take, vec_capacity, vec_len}
-use Rattle.pmt_model.specs.Pushing.{with_events}
-use Rattle.pmt_model.specs.Traces.{Recording}
+use Rattle.pmt_laws.specs.Prelude.{with_events, Recording}
 use Rattle.pmt_text.specs.Spelling.{event_text}
 use Rattle.pmt_trimming.specs.Passing.{IsPassOf}
 use Rattle.pmt_trimming.proofs.whole_text.take_measured.Given as goal

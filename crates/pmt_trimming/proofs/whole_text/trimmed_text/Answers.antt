@@ -1,13 +1,10 @@
 use Rattle.std.proofs.Common.{◌≡◌, List, length, Err, refl, ap, subst, ◌∙◌, rules, arith}
 use Rattle.std.proofs.lemmas.Grind.{elements}
-use Rattle.pmt_model.specs.declared.event.Event.{Event}
-use Rattle.pmt_model.specs.Values.{Layout}
-use Rattle.pmt_model.specs.Traces.{Recording}
-use Rattle.pmt_model.specs.Pushing.{empty, with_event, with_events}
+use Rattle.pmt_laws.specs.Prelude.{Event, Layout, Recording, empty, with_event, with_events}
 use Rattle.pmt_taking.specs.declared.taking.TakeError.TheVariants.{OutOfMemory, Source}
-use Rattle.pmt_taking.specs.Blocks.{shown_by}
+use Rattle.pmt_taking.specs.Sourcing.{shown_by}
 use Rattle.pmt_taking.proofs.SourceRunLemmas.{counts-refused, so_far-more, so_far-none}
-use Rattle.pmt_trimming.specs.WholeTexts.{IsWholeOf}
+use Rattle.pmt_trimming.specs.Streaming.{IsWholeOf}
 use Rattle.pmt_trimming.proofs.WholeTextLemmas.{text-whole, text-fault, counts-fault, so_far-ready, refused-told, refused-counted}
 use Rattle.pmt_trimming.proofs.StreamLemmas.{lent-is}
 use Rattle.pmt_trimming.proofs.whole_text.trimmed_text.Goals as goal

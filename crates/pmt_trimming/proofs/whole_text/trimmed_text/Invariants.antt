@@ -1,9 +1,8 @@
 use Rattle.std.proofs.Common.{◌≡◌, ℕ, List, Option}
-use Rattle.pmt_model.specs.Pushing.{empty}
-use Rattle.pmt_model.specs.Traces.{Recording}
-use Rattle.pmt_taking.specs.Blocks.{shown_by}
+use Rattle.pmt_laws.specs.Prelude.{empty, Recording}
+use Rattle.pmt_taking.specs.Sourcing.{shown_by}
 use Rattle.pmt_taking.proofs.SourceRunLemmas.{SoFar}
-use Rattle.pmt_trimming.specs.WholeTexts.{IsWholeOf}
+use Rattle.pmt_trimming.specs.Streaming.{IsWholeOf}
 use Rattle.pmt_trimming.proofs.whole_text.trimmed_text.Given as goal
 
 abbrev pub invariant-loop-block : goal.invariant-loop-block

@@ -1,13 +1,12 @@
 use Rattle.std.proofs.Common.{◌≡◌, ℕ, List, map, length, Vec, Global, sym, ap, ◌∙◌, subst}
-use Rattle.std.specs.List.{flat_map}
+use Rattle.pmt_laws.specs.Prelude.{flat_map, Recording, IsTrace}
 use Rattle.std.proofs.lemmas.List.{length-map}
-use Rattle.pmt_model.specs.Traces.{Recording, IsTrace}
 use Rattle.pmt_lines.specs.Jobs.{LineWork, LineFound, line_in, IsSplit}
 use Rattle.pmt_findings.specs.Merging.{job_in}
 use Rattle.pmt_trim.specs.Kept.{AreLinesKept, AreAllKept}
 use Rattle.pmt_asserts.specs.Tables.{AreResultsOf}
 use Rattle.pmt_workers.specs.declared.shard.LineAnswer.{LineAnswer}
-use Rattle.pmt_workers.specs.Results.{kept_in}
+use Rattle.pmt_workers.specs.Answering.{kept_in}
 use Rattle.pmt_workers.proofs.ResultLemmas.{jobs-same, lists-kept, results-of}
 use Rattle.pmt_workers.proofs.analyse.analysis_of_jobs.Goals as goal
 

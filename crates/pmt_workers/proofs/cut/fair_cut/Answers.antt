@@ -1,7 +1,7 @@
 use Rattle.std.proofs.Common.{◌≡◌, ℕ, ◌+◌, length, ap, ◌∙◌, arith, take, get_or}
 use Rattle.std.proofs.Math.Facts.{Fits-le, Fits-of_lt}
 use Rattle.pmt_lines.specs.Jobs.{LineWork}
-use Rattle.pmt_workers.specs.Halving.{steps_of}
+use Rattle.pmt_workers.specs.Answering.{steps_of}
 use Rattle.pmt_workers.proofs.CutLemmas.{steps_of-more, steps_of-parts, better, no_better}
 use Rattle.pmt_workers.proofs.cut.fair_cut.Goals as goal
 use Rattle.pmt_workers.proofs.cut.fair_cut.Goals.{then-gap-least, else-gap-least}

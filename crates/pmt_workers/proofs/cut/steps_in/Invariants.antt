@@ -1,5 +1,5 @@
 use Rattle.std.proofs.Common.{◌≡◌, ◌*◌, ◌≤◌, take}
-use Rattle.pmt_workers.specs.Halving.{steps_of}
+use Rattle.pmt_workers.specs.Answering.{steps_of}
 use Rattle.pmt_workers.proofs.cut.steps_in.Given as goal
 
 abbrev pub invariant-loop-i : goal.invariant-loop-i

@@ -1,6 +1,6 @@
 use Rattle.std.proofs.Common.{◌≡◌, map}
 use Rattle.std.specs.List.{flat_map}
-use Rattle.pmt_workers.specs.Results.{result_in, kept_in}
+use Rattle.pmt_workers.specs.Answering.{result_in, kept_in}
 use Rattle.pmt_workers.proofs.results.taken_apart.Given as goal
 
 abbrev pub invariant-loop-part : goal.invariant-loop-part

@@ -3,7 +3,7 @@ use Rattle.pmt_model.specs.Traces.{Recording}
 use Rattle.pmt_lines.specs.Jobs.{LineWork, LineFound, line_in}
 use Rattle.pmt_trim.specs.Kept.{AreLinesKept, AreAllKept}
 use Rattle.pmt_asserts.specs.Tables.{AreResultsOf}
-use Rattle.pmt_workers.specs.Results.{kept_in}
+use Rattle.pmt_workers.specs.Answering.{kept_in}
 use Rattle.pmt_workers.proofs.ResultLemmas.{lists-kept, results-of}
 use Rattle.refused_calls.proofs.shard.joined.Goals as goal
 

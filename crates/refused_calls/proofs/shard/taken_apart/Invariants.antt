@@ -1,5 +1,5 @@
 use Rattle.std.proofs.Common.{◌≡◌, map}
-use Rattle.pmt_workers.specs.Results.{result_in, kept_in}
+use Rattle.pmt_workers.specs.Answering.{result_in, kept_in}
 use Rattle.refused_calls.proofs.shard.taken_apart.Given as goal
 
 abbrev pub invariant-loop-answer : goal.invariant-loop-answer

@@ -1,8 +1,7 @@
 use Rattle.std.proofs.Common.{◌≡◌, ◌≤◌, ap, subst, ◌∙◌, length, arith, rules}
 use Rattle.std.specs.Prelude.{nat_le}
 use Rattle.std.proofs.lemmas.List.Sorted.{IsPartitionPoint-from_clause}
-use Rattle.pmt_model.specs.Traces.{Recording}
-use Rattle.pmt_model.specs.Fronts.{front_at}
+use Rattle.pmt_laws.specs.Prelude.{Recording, front_at}
 use Rattle.pmt_lines.specs.Jobs.{LineFound, IsLineResult, Raise, IsJob}
 use Rattle.pmt_asserts.proofs.RaiseLemmas.{front_after}
 use Rattle.pmt_asserts.proofs.TableLemmas.{raises-partitioned, front-found, front_after-some}

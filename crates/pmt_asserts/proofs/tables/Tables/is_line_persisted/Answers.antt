@@ -1,6 +1,5 @@
 use Rattle.std.proofs.Common.{◌≤◌, IfSome, refl, sym, subst, ◌∙◌, le_trans}
-use Rattle.pmt_model.specs.Fronts.{front_at}
-use Rattle.pmt_model.specs.Assertions.{Placed}
+use Rattle.pmt_laws.specs.Prelude.{front_at, Placed}
 use Rattle.pmt_asserts.proofs.PlacingLemmas.{unwritten-line, of-job}
 use Rattle.pmt_asserts.proofs.PartLemmas.{part-moved}
 use Rattle.pmt_asserts.proofs.tables.Tables.is_line_persisted.Goals as goal

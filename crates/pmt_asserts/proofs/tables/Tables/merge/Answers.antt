@@ -1,7 +1,7 @@
 use Rattle.std.proofs.Common.{◌≡◌, ℕ, ◌∙◌, ◌++◌, ◌∷◌, [], Option, Some, cond, nat_eq, List, ap, subst, sym, length}
 use Rattle.indexmap.specs.IndexMap.{get}
 use Rattle.pmt_lines.specs.Jobs.{LineFound, LineWork}
-use Rattle.pmt_asserts.specs.Placing.{IsPlacing}
+use Rattle.pmt_asserts.specs.Tables.{IsPlacing}
 use Rattle.pmt_asserts.proofs.PlacingLemmas.{placing-more}
 use Rattle.pmt_asserts.proofs.tables.Tables.merge.Goals as goal
 

@@ -1,7 +1,7 @@
 use Rattle.std.proofs.Common.{◌≡◌}
 use Rattle.std.specs.Prelude.{nat_eq}
 use Rattle.indexmap.specs.IndexMap.{get}
-use Rattle.pmt_asserts.specs.Placing.{IsPlacing}
+use Rattle.pmt_asserts.specs.Tables.{IsPlacing}
 use Rattle.pmt_asserts.proofs.tables.Tables.merge.Given as goal
 
 abbrev pub invariant-loop-found : goal.invariant-loop-found

@@ -1,10 +1,7 @@
 use Rattle.std.proofs.Common.{◌≡◌, ◌+◌, suc, length, sym, ap, subst, ◌∙◌, arith}
 use Rattle.std.proofs.lemmas.Grind.{elements}
-use Rattle.pmt_model.specs.Values.{Layout, line_of}
-use Rattle.pmt_model.specs.Machine.{Flushes}
-use Rattle.pmt_model.specs.Traces.{Recording, act}
-use Rattle.pmt_book.specs.Live.{IsLiveWith}
-use Rattle.pmt_book.specs.Ends.{whole_history}
+use Rattle.pmt_laws.specs.Prelude.{Layout, line_of, Flushes, Recording, act}
+use Rattle.pmt_book.specs.Live.{IsLiveWith, whole_history}
 use Rattle.pmt_book.proofs.HistoryLemmas.{length-whole}
 use Rattle.pmt_book.proofs.BookLemmas.{with-placed, keep-event}
 use Rattle.pmt_book.proofs.book.Book.add_flush.Goals as goal

@@ -1,10 +1,7 @@
 use Rattle.std.proofs.Common.{arith, ◌≡◌, ℕ, sym, ap, ◌∙◌}
 use Rattle.std.proofs.lemmas.Grind.{elements}
-use Rattle.pmt_model.specs.Values.{Layout, line_of}
-use Rattle.pmt_model.specs.Machine.{Stores}
-use Rattle.pmt_model.specs.declared.event.Op.TheVariants.{Store}
-use Rattle.pmt_book.specs.Adding.{event_by}
-use Rattle.pmt_book.specs.Ends.{whole_history}
+use Rattle.pmt_laws.specs.Prelude.{Layout, line_of, Stores, Store}
+use Rattle.pmt_book.specs.Live.{event_by, whole_history}
 use Rattle.pmt_book.proofs.BookLemmas.{with-placed, keep-event}
 use Rattle.pmt_book.proofs.book.Book.add_store.Goals as goal
 

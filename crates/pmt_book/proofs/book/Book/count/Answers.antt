@@ -1,7 +1,7 @@
 use Rattle.std.proofs.Common.{arith, ◌≡◌, sym, subst}
 use Rattle.std.proofs.lemmas.Grind.{elements}
 use Rattle.pmt_model.specs.Traces.{Recording}
-use Rattle.pmt_book.specs.Ends.{last_count}
+use Rattle.pmt_book.specs.Live.{last_count}
 use Rattle.pmt_book.proofs.BookLemmas.{no-stores}
 use Rattle.pmt_book.proofs.book.Book.count.Goals as goal
 

@@ -1,6 +1,6 @@
 use Rattle.std.proofs.Common.{◌≡◌, sym, subst}
 use Rattle.pmt_model.specs.Traces.{Recording}
-use Rattle.pmt_book.specs.Ends.{last_front}
+use Rattle.pmt_book.specs.Live.{last_front}
 use Rattle.pmt_book.proofs.BookLemmas.{no-stores}
 use Rattle.pmt_book.proofs.book.Book.front.Goals as goal
 

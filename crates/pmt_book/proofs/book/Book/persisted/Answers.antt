@@ -1,9 +1,8 @@
 use Rattle.std.proofs.Common.{◌≡◌, ◌+◌, ◌-◌, ◌/◌, ℕ, le_trans, refl, sym, ◌∙◌, ap, subst, arith}
 use Rattle.std.proofs.lemmas.Grind.{elements}
 use Rattle.std.proofs.lemmas.Bool.{true≢false}
-use Rattle.pmt_model.specs.Values.{Layout, line_of}
-use Rattle.pmt_model.specs.Traces.{Recording}
-use Rattle.pmt_book.specs.Ends.{last_front, last_count, PassesNow}
+use Rattle.pmt_laws.specs.Prelude.{Layout, line_of, Recording}
+use Rattle.pmt_book.specs.Live.{last_front, last_count, PassesNow}
 use Rattle.pmt_book.proofs.PersistLemmas.{spared-from_passes, passes-from_spared, counted-none_touches}
 use Rattle.pmt_book.proofs.book.Book.persisted.Goals as goal
 

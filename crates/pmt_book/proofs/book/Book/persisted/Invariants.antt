@@ -1,6 +1,5 @@
 use Rattle.std.proofs.Common.{◌≡◌, ℕ, ◌-◌, ◌≤◌, ◌<◌, true}
-use Rattle.pmt_book.specs.Ends.{whole_history, last_count, last_front}
-use Rattle.pmt_book.specs.Touching.{none_touches}
+use Rattle.pmt_book.specs.Live.{whole_history, last_count, last_front, none_touches}
 use Rattle.pmt_book.proofs.book.Book.persisted.Given as goal
 
 abbrev pub invariant-loop-line : goal.invariant-loop-line

@@ -1,6 +1,5 @@
 use Rattle.std.proofs.Common.{refl}
-use Rattle.pmt_model.specs.Machine.{count}
-use Rattle.pmt_model.specs.Fronts.{front}
+use Rattle.pmt_laws.specs.Prelude.{count, front}
 use Rattle.pmt_book.proofs.LiveLemmas.{live-clflush}
 use Rattle.pmt_book.proofs.live.LiveLines.clflush.Goals as goal
 

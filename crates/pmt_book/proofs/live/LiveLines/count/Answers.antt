@@ -1,6 +1,5 @@
 use Rattle.std.proofs.Common.{ap}
-use Rattle.pmt_model.specs.Machine.{count}
-use Rattle.pmt_model.specs.Fronts.{front}
+use Rattle.pmt_laws.specs.Prelude.{count, front}
 use Rattle.pmt_rows.specs.declared.rows.Row.{Row}
 use Rattle.pmt_book.proofs.live.LiveLines.count.Goals as goal
 

@@ -1,5 +1,4 @@
-use Rattle.pmt_model.specs.Machine.{count}
-use Rattle.pmt_model.specs.Fronts.{front}
+use Rattle.pmt_laws.specs.Prelude.{count, front}
 use Rattle.pmt_book.proofs.LiveLemmas.{live-fence, all-within}
 use Rattle.pmt_book.proofs.live.LiveLines.fence.Goals as goal
 

@@ -1,6 +1,5 @@
 use Rattle.std.proofs.Common.{refl, rules}
-use Rattle.pmt_model.specs.Machine.{count}
-use Rattle.pmt_model.specs.Fronts.{front}
+use Rattle.pmt_laws.specs.Prelude.{count, front}
 use Rattle.pmt_book.proofs.LiveLemmas.{live-placed}
 use Rattle.pmt_book.specs.Live.{Keeps}
 use Rattle.pmt_book.proofs.live.LiveLines.slot_of.Goals as goal

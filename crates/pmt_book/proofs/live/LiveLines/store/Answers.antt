@@ -1,6 +1,5 @@
 use Rattle.std.proofs.Common.{◌≡◌, suc, ◌+◌, get_or, refl, arith}
-use Rattle.pmt_model.specs.Machine.{count}
-use Rattle.pmt_model.specs.Fronts.{front}
+use Rattle.pmt_laws.specs.Prelude.{count, front}
 use Rattle.pmt_book.proofs.LiveLemmas.{live-store, row-at, count-le-length}
 use Rattle.pmt_book.proofs.live.LiveLines.store.Goals as goal
 

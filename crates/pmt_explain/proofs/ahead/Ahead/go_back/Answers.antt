@@ -1,8 +1,6 @@
 use Rattle.std.proofs.Common.{◌≡◌, ◌∙◌, suc, sym, ap, subst, arith}
 use Rattle.std.proofs.lemmas.Grind.{elements}
-use Rattle.pmt_model.specs.Values.{line_of}
-use Rattle.pmt_model.specs.Machine.{Stores}
-use Rattle.pmt_model.specs.Traces.{IsAct, act_of}
+use Rattle.pmt_laws.specs.Prelude.{line_of, Stores, IsAct, act_of}
 use Rattle.pmt_explain.proofs.FollowingLemmas.{ahead-store, ahead-assert}
 use Rattle.pmt_explain.proofs.SavingLemmas.{safe-at}
 use Rattle.pmt_explain.proofs.ahead.Ahead.go_back.Goals as goal

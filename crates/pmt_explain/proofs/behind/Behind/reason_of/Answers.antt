@@ -1,11 +1,8 @@
 use Rattle.std.proofs.Common.{◌≡◌, ◌∙◌, inl, inr, refl, sym, ap, subst, false, arith, get_or}
 use Rattle.std.specs.Prelude.{slice_index_or}
-use Rattle.pmt_model.specs.Values.{line_of}
-use Rattle.pmt_model.specs.Machine.{Flushes, Fences, Asserts}
-use Rattle.pmt_model.specs.Traces.{IsAct, act_of, count_at}
-use Rattle.pmt_reasons.specs.Reasons.{IsReason}
+use Rattle.pmt_explain.specs.Prelude.{line_of, Flushes, Fences, Asserts, IsAct, act_of, count_at, IsReason}
 use Rattle.pmt_explain.proofs.ReasonLemmas.{clflush-dropped, fence-dropped, stays-kept}
-use Rattle.pmt_explain.specs.Reasoning.{AreSafeFrom}
+use Rattle.pmt_explain.specs.Dropping.{AreSafeFrom}
 use Rattle.pmt_explain.proofs.BehindLemmas.{flush-place, flushed-by}
 use Rattle.pmt_explain.proofs.behind.Behind.reason_of.Goals as goal
 

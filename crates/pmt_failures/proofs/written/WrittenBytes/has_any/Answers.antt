@@ -1,7 +1,7 @@
 use Rattle.std.proofs.Common.{rules, ◌≡◌, ℕ, ◌+◌, ◌<◌, ◌≤◌, sym, ap, ◌∙◌, arith}
 use Rattle.std.specs.Int.{bit_at}
 use Rattle.std.specs.List.{list_any, range_with_len}
-use Rattle.pmt_failures.specs.Unwriting.{has_byte}
+use Rattle.pmt_failures.specs.Showing.{has_byte}
 use Rattle.pmt_failures.proofs.WrittenLemmas.{none-further, none-found, some-found}
 use Rattle.pmt_failures.proofs.written.WrittenBytes.has_any.Goals as goal
 

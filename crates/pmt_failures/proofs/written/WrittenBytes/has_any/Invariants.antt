@@ -1,5 +1,5 @@
 use Rattle.std.proofs.Common.{◌≡◌, ℕ, ◌*◌, ◌<◌, ◌≤◌, false}
-use Rattle.pmt_failures.specs.Unwriting.{has_byte}
+use Rattle.pmt_failures.specs.Showing.{has_byte}
 use Rattle.pmt_failures.proofs.written.WrittenBytes.has_any.Given as goal
 
 abbrev pub invariant-loop-number : goal.invariant-loop-number

@@ -3,7 +3,7 @@ use Rattle.std.specs.Prelude.{cond, nat_eq, OnOk}
 use Rattle.std.specs.Int.Bits.{bit_or}
 use Rattle.std.proofs.lemmas.Result.{on_ok_weaker}
 use Rattle.pmt_failures.specs.declared.written.WrittenBytes.{WrittenBytes}
-use Rattle.pmt_failures.specs.Unwriting.{bits_of}
+use Rattle.pmt_failures.specs.Showing.{bits_of}
 use Rattle.pmt_failures.proofs.WrittenLemmas.{noted-store}
 use Rattle.pmt_failures.proofs.written.WrittenBytes.note_store.Goals as goal
 

@@ -1,5 +1,5 @@
 use Rattle.std.proofs.Common.{◌≡◌}
-use Rattle.pmt_model.specs.Selecting.{first_fall}
+use Rattle.pmt_model.specs.Selections.{first_fall}
 use Rattle.pmt_model.proofs.Falls.{fall_after}
 use Rattle.pmt_model.proofs.selection.Selection.from_numbers.Given as goal
 

@@ -1,8 +1,7 @@
 use Rattle.std.proofs.Common.{◌≡◌, length, take, drop, ◌++◌, refl, sym, ◌∙◌, ap, subst}
 use Rattle.std.proofs.lemmas.Bool.{false≢true}
 use Rattle.pmt_model.specs.Traces.{Recording}
-use Rattle.pmt_recorder.specs.Strips.{IsOneOfEach, total_length}
-use Rattle.pmt_recorder.specs.Sealing.{IsSealed, SealFails, IsHandedBack}
+use Rattle.pmt_recorder.specs.Strips.{IsOneOfEach, total_length, IsSealed, SealFails, IsHandedBack}
 use Rattle.pmt_recorder.specs.declared.fault.SealKind.TheVariants.{Torn}
 use Rattle.pmt_recorder.proofs.SealLemmas.{sealed, torn_at, each_after, not_each, few_tapes, parts_after, written_back}
 use Rattle.pmt_recorder.proofs.shelf.Shelf.seal.Goals as goal

@@ -1,5 +1,5 @@
 use Rattle.std.proofs.Common.{◌≡◌, suc, drop, ◌↔◌}
-use Rattle.pmt_model.specs.Interleavings.{part_from}
+use Rattle.pmt_model.specs.Selections.{part_from}
 use Rattle.pmt_recorder.specs.Strips.{strip, IsPart}
 use Rattle.pmt_recorder.proofs.tape.Tape.is_part.Given as goal
 

@@ -1,7 +1,7 @@
 use Rattle.std.proofs.Common.{◌≡◌, sym, ap, subst, ◌∙◌, arith}
 use Rattle.std.specs.Prelude.{slice_index, slice_set}
 use Rattle.std.proofs.lemmas.Grind.{get_or_default_zero}
-use Rattle.pmt_rows.specs.Chains.{IsChain, with_place}
+use Rattle.pmt_rows.specs.Known.{IsChain, with_place}
 use Rattle.pmt_rows.proofs.ChainLemmas.{IsStep, IsWalking, walk-starts, walk-step, walk-on, walk-ends}
 use Rattle.pmt_rows.proofs.links.Links.raise.Goals as goal
 

@@ -1,5 +1,5 @@
 use Rattle.std.proofs.Common.{ℕ, List}
-use Rattle.pmt_rows.specs.Chains.{IsChain}
+use Rattle.pmt_rows.specs.Known.{IsChain}
 use Rattle.pmt_rows.proofs.ChainLemmas.{IsWalking}
 use Rattle.pmt_rows.proofs.links.Links.raise.Given as goal
 

@@ -1,5 +1,5 @@
 use Rattle.std.proofs.Common.{refl, sym, subst}
-use Rattle.pmt_tables.specs.Spans.{IsSpanned}
+use Rattle.pmt_tables.specs.Slots.{IsSpanned}
 use Rattle.pmt_slices.proofs.ScanLemmas.{scan-new, spanned-few}
 use Rattle.pmt_slices.proofs.scan.Scan.new.Goals as goal
 

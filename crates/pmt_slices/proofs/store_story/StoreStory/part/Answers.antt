@@ -1,9 +1,7 @@
 use Rattle.std.proofs.Common.{arith}
 use Rattle.pmt_slices.proofs.StoreStoryLemmas.{told-saves, told-own, told-flush, told-cover, told-fence, told-other}
 use Rattle.pmt_slices.proofs.store_story.StoreStory.part.Goals as goal
-use Rattle.pmt_slices.proofs.store_story.StoreStory.part.Goals.{else-self-coming-via-then-self-coming+else-number-self-2, else-self-coming-via-else-self-coming}
-use Rattle.pmt_slices.proofs.store_story.StoreStory.part.Goals.{else-coming-self-via-then-coming-self+else-number-coming-3, else-coming-self-via-else-coming-self}
-use Rattle.pmt_slices.proofs.store_story.StoreStory.part.Goals.{else-coming-via-then-coming+then-coming-self-2+else-number-coming-4, else-coming-via-then-coming+else-coming-self-2, else-coming-via-else-coming}
+use Rattle.pmt_slices.proofs.store_story.StoreStory.part.Goals.{else-self-coming-via-then-self-coming+else-number-self-2, else-self-coming-via-else-self-coming, else-coming-self-via-then-coming-self+else-number-coming-3, else-coming-self-via-else-coming-self, else-coming-via-then-coming+then-coming-self-2+else-number-coming-4, else-coming-via-then-coming+else-coming-self-2, else-coming-via-else-coming}
 
 pub returns-then-number-coming : goal.returns-then-number-coming
 returns-then-number-coming c = λ T n is has. told-saves T n c.args.self.now is c.args.number has c.if-number-self.false c.if-number-coming.true

@@ -2,7 +2,7 @@ use Rattle.std.proofs.Common.{◌≡◌, ◌+◌, ◌-◌, ◌≤◌, ◌⊎◌,
 use Rattle.std.proofs.lemmas.Bool.{cases_lt}
 use Rattle.std.specs.Vec.{with_items}
 use Rattle.pmt_slices.specs.declared.unwritten.Unwritten.{Unwritten}
-use Rattle.pmt_slices.specs.Taking.{TakesBytes}
+use Rattle.pmt_slices.specs.Slices.{TakesBytes}
 use Rattle.pmt_slices.proofs.TakenLemmas.{takes-store, refill-all, taken-there, taken-back}
 use Rattle.pmt_slices.proofs.unwritten.Unwritten.take.Goals as goal
 

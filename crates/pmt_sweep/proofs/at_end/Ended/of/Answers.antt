@@ -1,7 +1,5 @@
 use Rattle.std.proofs.Common.{length, sym, subst, ◌∙◌}
-use Rattle.pmt_sweep.specs.Ends.{AreEndsOf}
-use Rattle.pmt_sweep.specs.Entries.{AreMarked}
-use Rattle.pmt_sweep.specs.SafePlaces.{AreSafePlaces}
+use Rattle.pmt_sweep.specs.Entries.{AreEndsOf, AreMarked, AreSafePlaces}
 use Rattle.pmt_sweep.proofs.MarkedLemmas.{many-rows}
 use Rattle.pmt_sweep.proofs.LostLemmas.{refill-all, safe-places}
 use Rattle.pmt_sweep.proofs.at_end.Ended.of.Goals as goal

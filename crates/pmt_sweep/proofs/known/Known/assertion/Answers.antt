@@ -1,7 +1,6 @@
 use Rattle.std.proofs.Common.{◌≡◌, suc, ◌∙◌, arith}
 use Rattle.std.proofs.lemmas.Grind.{elements}
-use Rattle.pmt_model.specs.Machine.{Asserts}
-use Rattle.pmt_model.specs.Traces.{history, lines_of}
+use Rattle.pmt_laws.specs.Prelude.{Asserts, history, lines_of}
 use Rattle.pmt_sweep.specs.Known.{IsKnownAmong}
 use Rattle.pmt_sweep.specs.declared.known.Known.{Known}
 use Rattle.pmt_sweep.proofs.KnownLemmas.{known-next}

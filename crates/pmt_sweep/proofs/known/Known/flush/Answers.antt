@@ -1,6 +1,5 @@
 use Rattle.std.proofs.lemmas.Result.{IfOk-weaker, on_ok_weaker}
-use Rattle.pmt_model.specs.Machine.{Flushes}
-use Rattle.pmt_model.specs.Traces.{history, lines_of}
+use Rattle.pmt_laws.specs.Prelude.{Flushes, history, lines_of}
 use Rattle.pmt_sweep.proofs.KnownLemmas.{act-here, known-next}
 use Rattle.pmt_sweep.proofs.known.Known.flush.Goals as goal
 

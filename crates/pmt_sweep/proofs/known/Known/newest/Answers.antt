@@ -1,7 +1,6 @@
 use Rattle.std.proofs.Common.{◌≡◌, ap, ◌∙◌, arith}
 use Rattle.std.proofs.lemmas.Grind.{elements}
-use Rattle.pmt_model.specs.Findings.{last_flush}
-use Rattle.pmt_model.specs.Traces.{history, lines_of}
+use Rattle.pmt_laws.specs.Prelude.{last_flush, history, lines_of}
 use Rattle.pmt_rows.specs.declared.rows.Row.{Row}
 use Rattle.pmt_rows.specs.Known.{row_after}
 use Rattle.pmt_safety.specs.Safety.{last_line_store_at, safe_store_at}

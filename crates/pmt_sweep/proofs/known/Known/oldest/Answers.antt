@@ -1,7 +1,7 @@
 use Rattle.std.proofs.Common.{◌+◌, ◌*◌, arith}
 use Rattle.std.proofs.lemmas.Grind.{elements}
 use Rattle.pmt_tables.specs.Lasts.{last_at}
-use Rattle.pmt_sweep.specs.Reading.{last_in_line}
+use Rattle.pmt_sweep.specs.Known.{last_in_line}
 use Rattle.pmt_sweep.proofs.ReadingLemmas.{oldest-all, oldest-next, word-same}
 use Rattle.pmt_sweep.proofs.known.Known.oldest.Goals as goal
 

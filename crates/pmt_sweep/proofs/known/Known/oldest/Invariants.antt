@@ -1,6 +1,6 @@
 use Rattle.std.proofs.Common.{ℕ, ◌*◌}
 use Rattle.pmt_model.specs.Traces.{Recording}
-use Rattle.pmt_sweep.specs.Reading.{IsLineAt, last_in_line}
+use Rattle.pmt_sweep.specs.Known.{IsLineAt, last_in_line}
 use Rattle.pmt_sweep.proofs.ReadingLemmas.{IsOldestBelow}
 use Rattle.pmt_sweep.proofs.known.Known.oldest.Given as goal
 

@@ -1,8 +1,6 @@
 use Rattle.std.proofs.Common.{◌≡◌, sym, ap, ◌∙◌}
 use Rattle.std.proofs.lemmas.Result.{on_ok_weaker}
-use Rattle.pmt_model.specs.Machine.{Stores}
-use Rattle.pmt_model.specs.Values.{line_of}
-use Rattle.pmt_model.specs.Traces.{history, lines_of}
+use Rattle.pmt_laws.specs.Prelude.{Stores, line_of, history, lines_of}
 use Rattle.pmt_sweep.proofs.KnownLemmas.{store-here, known-next}
 use Rattle.pmt_sweep.proofs.known.Known.store.Goals as goal
 

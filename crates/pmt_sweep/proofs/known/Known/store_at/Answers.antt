@@ -1,7 +1,6 @@
 use Rattle.std.proofs.Common.{◌≡◌, ℕ, suc, ◌+◌, ◌*◌, ◌<◌, length, ap, subst, ◌∙◌, arith}
 use Rattle.std.proofs.lemmas.Grind.{elements}
-use Rattle.pmt_model.specs.Findings.{last_flush}
-use Rattle.pmt_model.specs.Traces.{history, lines_of, with_line}
+use Rattle.pmt_laws.specs.Prelude.{last_flush, history, lines_of, with_line}
 use Rattle.pmt_safety.specs.Safety.{last_line_store_at, safe_store_at}
 use Rattle.pmt_tables.specs.Lasts.{last_at, with_store}
 use Rattle.pmt_rows.specs.declared.rows.Row.{Row}

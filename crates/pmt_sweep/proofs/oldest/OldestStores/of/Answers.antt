@@ -1,14 +1,13 @@
 use Rattle.std.proofs.Common.{◌≡◌, List, get_or, sym, ap, subst, ◌∙◌}
-use Rattle.pmt_model.specs.Traces.{history}
-use Rattle.pmt_model.specs.Values.{Layout}
+use Rattle.pmt_laws.specs.Prelude.{history, Layout}
 use Rattle.pmt_rows.specs.declared.rows.Row.{Row}
 use Rattle.pmt_rows.specs.Known.{row_after}
 use Rattle.pmt_tables.specs.Lasts.{IsLeastAbove}
 use Rattle.pmt_safety.specs.Safety.{safe_store_at}
 use Rattle.pmt_sweep.specs.declared.oldest.OldestStore.{OldestStore}
 use Rattle.pmt_sweep.specs.declared.oldest.OldestStores.{OldestStores}
-use Rattle.pmt_sweep.specs.Oldest.{AreOldestOf, IsOldestOf, none_found}
-use Rattle.pmt_sweep.specs.Reading.{last_in_line}
+use Rattle.pmt_sweep.specs.Judged.{AreOldestOf, IsOldestOf, none_found}
+use Rattle.pmt_sweep.specs.Known.{last_in_line}
 use Rattle.pmt_sweep.proofs.OldestLemmas.{oldest-found, oldest-kept, oldest-now}
 use Rattle.pmt_sweep.proofs.oldest.OldestStores.of.Goals.{in-Some+else-found-last_store, in_default}
 use Rattle.pmt_sweep.proofs.oldest.OldestStores.of.Goals as goal

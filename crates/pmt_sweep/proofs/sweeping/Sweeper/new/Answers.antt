@@ -1,10 +1,8 @@
 use Rattle.std.proofs.Common.{refl, sym, subst, arith}
-use Rattle.pmt_model.specs.Pushing.{empty}
-use Rattle.pmt_model.specs.Traces.{IsTrace}
-use Rattle.pmt_sweep.specs.Oldest.{AreOldestOf}
-use Rattle.pmt_sweep.specs.PassFlags.{AreFlagsTo}
-use Rattle.pmt_sweep.specs.PassKnown.{AreKnownTo}
-use Rattle.pmt_sweep.specs.VerdictsSoFar.{AreVerdictsTo}
+use Rattle.pmt_laws.specs.Prelude.{empty, IsTrace}
+use Rattle.pmt_sweep.specs.Judged.{AreOldestOf}
+use Rattle.pmt_sweep.specs.Passing.{AreFlagsTo}
+use Rattle.pmt_sweep.specs.Found.{AreKnownTo, AreVerdictsTo}
 use Rattle.pmt_sweep.proofs.FlagLemmas.{flags-start}
 use Rattle.pmt_sweep.proofs.OldestLemmas.{oldest-start}
 use Rattle.pmt_sweep.proofs.PassKnownLemmas.{known-start}

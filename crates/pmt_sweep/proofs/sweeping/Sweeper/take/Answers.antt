@@ -1,5 +1,5 @@
 use Rattle.std.proofs.Common.{◌≡◌, suc, ◌+◌, length, subst, arith}
-use Rattle.pmt_model.specs.Pushing.{with_events}
+use Rattle.pmt_model.specs.Traces.{with_events}
 use Rattle.pmt_sweep.specs.Passing.{IsPassOf}
 use Rattle.pmt_sweep.proofs.GrowingLemmas.{event-next, pass-more, pass-whole}
 use Rattle.pmt_sweep.proofs.sweeping.Sweeper.take.Goals as goal

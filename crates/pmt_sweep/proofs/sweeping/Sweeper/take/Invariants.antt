@@ -1,6 +1,5 @@
 use Rattle.std.proofs.Common.{◌+◌, length}
-use Rattle.pmt_model.specs.Traces.{Recording, IsTrace}
-use Rattle.pmt_model.specs.Pushing.{with_events}
+use Rattle.pmt_laws.specs.Prelude.{Recording, IsTrace, with_events}
 use Rattle.pmt_sweep.specs.Passing.{HasSwept, IsPassOf}
 use Rattle.pmt_sweep.proofs.sweeping.Sweeper.take.Given as goal
 

@@ -1,14 +1,10 @@
 use Rattle.std.proofs.Common.{◌≡◌, suc, ◌+◌, [], List, Some, refl, sym, subst, arith}
 use Rattle.std.proofs.lemmas.List.{append-nil}
-use Rattle.pmt_model.specs.declared.finding.Verdict.{Verdict}
-use Rattle.pmt_model.specs.Machine.{Asserts}
-use Rattle.pmt_model.specs.Traces.{event}
+use Rattle.pmt_laws.specs.Prelude.{Verdict, Asserts, event}
 use Rattle.pmt_sweep.specs.Known.{IsKnownOf}
-use Rattle.pmt_sweep.specs.Oldest.{AreOldestOf}
-use Rattle.pmt_sweep.specs.Verdicts.{IsVerdictAt}
-use Rattle.pmt_sweep.specs.PassFlags.{AreFlagsTo}
-use Rattle.pmt_sweep.specs.Oldest.{AreOldestOf}
-use Rattle.pmt_sweep.specs.VerdictsSoFar.{AreVerdictsTo}
+use Rattle.pmt_sweep.specs.Judged.{AreOldestOf}
+use Rattle.pmt_sweep.specs.Found.{IsVerdictAt, AreVerdictsTo}
+use Rattle.pmt_sweep.specs.Passing.{AreFlagsTo}
 use Rattle.pmt_sweep.proofs.FlagLemmas.{flags-stays}
 use Rattle.pmt_sweep.proofs.OldestLemmas.{oldest-on}
 use Rattle.pmt_sweep.proofs.PassKnownLemmas.{known-assertion, known-next}

@@ -1,10 +1,8 @@
 use Rattle.std.proofs.Common.{◌≡◌, Bool, List, [], ◌∷◌, suc, ◌+◌, ◌++◌, length, drop, sym, ap, subst, ◌∙◌, arith}
 use Rattle.std.proofs.lemmas.List.{take_at}
-use Rattle.pmt_model.specs.declared.finding.Finding.TheVariants.{FenceWithoutFlush}
-use Rattle.pmt_model.specs.Machine.{Fences}
-use Rattle.pmt_sweep.specs.Flags.{FlagsKept}
-use Rattle.pmt_sweep.specs.Adding.{found_if}
-use Rattle.pmt_sweep.specs.PassFlags.{AreFlagsTo}
+use Rattle.pmt_laws.specs.Prelude.{FenceWithoutFlush, Fences}
+use Rattle.pmt_sweep.specs.Passing.{FlagsKept, AreFlagsTo}
+use Rattle.pmt_sweep.specs.Found.{found_if}
 use Rattle.pmt_sweep.proofs.FlagLemmas.{flags-fence}
 use Rattle.pmt_sweep.proofs.OldestLemmas.{oldest-on}
 use Rattle.pmt_sweep.proofs.PassKnownLemmas.{known-fence, known-next}

@@ -1,8 +1,7 @@
 use Rattle.std.proofs.Common.{◌≡◌, suc, ◌+◌, ◌++◌, sym, ap, subst, ◌∙◌, arith}
-use Rattle.pmt_model.specs.declared.finding.Finding.TheVariants.{RedundantFlush}
-use Rattle.pmt_model.specs.Machine.{Flushes}
-use Rattle.pmt_sweep.specs.Adding.{found_if}
-use Rattle.pmt_sweep.specs.PassFlags.{AreFlagsTo}
+use Rattle.pmt_laws.specs.Prelude.{RedundantFlush, Flushes}
+use Rattle.pmt_sweep.specs.Found.{found_if}
+use Rattle.pmt_sweep.specs.Passing.{AreFlagsTo}
 use Rattle.pmt_sweep.proofs.FlagLemmas.{flags-flush}
 use Rattle.pmt_sweep.proofs.OldestLemmas.{oldest-on}
 use Rattle.pmt_sweep.proofs.PassKnownLemmas.{known-flush, known-next}

@@ -1,9 +1,8 @@
 use Rattle.std.proofs.Common.{suc, List, refl, sym, subst}
-use Rattle.pmt_model.specs.Machine.{Stores}
-use Rattle.pmt_model.specs.Values.{line_of}
+use Rattle.pmt_laws.specs.Prelude.{Stores, line_of}
 use Rattle.pmt_tables.specs.declared.words.Overwrite.{Overwrite}
 use Rattle.pmt_sweep.specs.Known.{AddsOverwrittenBy}
-use Rattle.pmt_sweep.specs.PassFlags.{AreFlagsTo}
+use Rattle.pmt_sweep.specs.Passing.{AreFlagsTo}
 use Rattle.pmt_sweep.proofs.FlagLemmas.{flags-stays}
 use Rattle.pmt_sweep.proofs.OldestLemmas.{oldest-on}
 use Rattle.pmt_sweep.proofs.PassKnownLemmas.{adds-overwritten, known-next}

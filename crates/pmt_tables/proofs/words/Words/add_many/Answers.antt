@@ -3,8 +3,7 @@ use Rattle.std.proofs.lemmas.Grind.{common_steps, elements}
 use Rattle.std.specs.Prelude.{replicate}
 use Rattle.std.specs.Vec.{vec_len}
 use Rattle.std.proofs.lemmas.List.{take_all, length-map}
-use Rattle.pmt_tables.specs.Lasts.{last_at}
-use Rattle.pmt_tables.specs.Packed.{all_bytes, bytes_of}
+use Rattle.pmt_tables.specs.Lasts.{last_at, all_bytes, bytes_of}
 use Rattle.pmt_tables.proofs.WordLemmas.{added-none}
 use Rattle.pmt_tables.proofs.words.Words.add_many.Goals as goal
 

@@ -1,7 +1,6 @@
 use Rattle.std.proofs.Common.{◌<◌, subst, sym, arith}
 use Rattle.std.proofs.lemmas.Grind.{elements}
-use Rattle.pmt_tables.specs.Lasts.{last_at, IsLeastAbove}
-use Rattle.pmt_tables.specs.Packed.{first_table}
+use Rattle.pmt_tables.specs.Lasts.{last_at, IsLeastAbove, first_table}
 use Rattle.pmt_tables.proofs.ByteLemmas.{least-same, whole-all}
 use Rattle.pmt_tables.proofs.SeenLemmas.{read-is, read-whole, read-table}
 use Rattle.pmt_tables.proofs.words.Words.oldest_of_all.Goals as goal

@@ -2,7 +2,7 @@ use Rattle.std.proofs.Common.{◌≡◌, ◌<◌, true, inl, rules, arith}
 use Rattle.std.proofs.lemmas.Grind.{common_steps, elements}
 use Rattle.std.specs.Prelude.{nat_lt, nat_le, ◌&&◌}
 use Rattle.std.proofs.lemmas.Bool.{ltb-true, and_parts}
-use Rattle.pmt_tables.specs.Packed.{first_table, is_covered, IsWhole, low_of, high_of}
+use Rattle.pmt_tables.specs.Lasts.{first_table, is_covered, IsWhole, low_of, high_of}
 use Rattle.pmt_tables.proofs.AddingLemmas.{adds-same}
 use Rattle.pmt_tables.proofs.SeenLemmas.{read-whole, stored-whole}
 use Rattle.pmt_tables.proofs.words.Words.store.Goals as goal

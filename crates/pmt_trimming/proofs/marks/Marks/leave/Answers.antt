@@ -1,6 +1,6 @@
 use Rattle.std.proofs.Common.{length, drop, sym, ap, ◌∙◌, arith, length-drop}
 use Rattle.std.proofs.lemmas.List.{drop-drop}
-use Rattle.pmt_trimming.specs.MarkRows.{MarkRow}
+use Rattle.pmt_trimming.specs.LineQueues.{MarkRow}
 use Rattle.pmt_trimming.proofs.marks.Marks.leave.Goals as goal
 
 pub given_up-self-inside-requires : goal.given_up-self-inside-requires

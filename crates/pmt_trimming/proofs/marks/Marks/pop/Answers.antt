@@ -1,6 +1,6 @@
 use Rattle.std.proofs.Common.{drop, sym, ap, ◌∙◌}
 use Rattle.std.proofs.lemmas.List.{drop-drop}
-use Rattle.pmt_trimming.specs.MarkRows.{MarkRow}
+use Rattle.pmt_trimming.specs.LineQueues.{MarkRow}
 use Rattle.pmt_trimming.proofs.marks.Marks.pop.Goals as goal
 
 pub returns-then-self-len : goal.returns-then-self-len

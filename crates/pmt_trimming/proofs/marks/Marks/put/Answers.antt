@@ -1,7 +1,7 @@
 use Rattle.std.proofs.Common.{arith, set, ap, ◌∙◌}
 use Rattle.std.proofs.lemmas.Grind.{elements}
 use Rattle.std.proofs.lemmas.List.{drop-set-add}
-use Rattle.pmt_trimming.specs.MarkRows.{MarkRow}
+use Rattle.pmt_trimming.specs.LineQueues.{MarkRow}
 use Rattle.pmt_trimming.proofs.marks.Marks.put.Goals as goal
 
 pub returns : goal.returns

@@ -1,7 +1,5 @@
 use Rattle.std.proofs.Common.{◌≡◌, refl, sym, ap, ◌∙◌}
-use Rattle.pmt_model.specs.Machine.{Stores}
-use Rattle.pmt_model.specs.Values.{line_of}
-use Rattle.pmt_model.specs.Traces.{act_of}
+use Rattle.pmt_laws.specs.Prelude.{Stores, line_of, act_of}
 use Rattle.pmt_trimming.proofs.PassingLemmas.{judged-assert}
 use Rattle.pmt_trimming.proofs.pass.Pass.judge.Goals as goal
 

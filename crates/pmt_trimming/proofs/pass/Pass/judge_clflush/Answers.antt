@@ -1,7 +1,5 @@
 use Rattle.std.proofs.Common.{◌≡◌, suc, length, refl, subst, ap, arith}
-use Rattle.pmt_model.specs.Findings.{last_flush}
-use Rattle.pmt_model.specs.Machine.{Clflushes}
-use Rattle.pmt_model.specs.Traces.{history, lines_of, with_line}
+use Rattle.pmt_laws.specs.Prelude.{last_flush, Clflushes, history, lines_of, with_line}
 use Rattle.pmt_laws.proofs.Histories.{length-history}
 use Rattle.pmt_safety.specs.Safety.{last_line_store, safe_store}
 use Rattle.pmt_tables.specs.Slots.{IsSlotOf}

@@ -1,9 +1,5 @@
 use Rattle.std.proofs.Common.{length, refl}
-use Rattle.pmt_model.specs.declared.event.Event.{Event}
-use Rattle.pmt_model.specs.declared.event.Op.TheVariants.{Sfence}
-use Rattle.pmt_model.specs.Machine.{Fences}
-use Rattle.pmt_model.specs.Traces.{history, lines_of}
-use Rattle.pmt_model.specs.Pushing.{with_event}
+use Rattle.pmt_laws.specs.Prelude.{Event, Sfence, Fences, history, lines_of, with_event}
 use Rattle.pmt_trimming.proofs.PassingLemmas.{judged-marks, tells-fence}
 use Rattle.pmt_trimming.proofs.FencingLemmas.{at-fence, lines-past}
 use Rattle.pmt_trimming.proofs.pass.Pass.judge_fence.Goals as goal

@@ -1,5 +1,5 @@
 use Rattle.std.proofs.Common.{refl}
-use Rattle.pmt_model.specs.Pushing.{with_event}
+use Rattle.pmt_model.specs.Traces.{with_event}
 use Rattle.pmt_trimming.proofs.PassingLemmas.{passed}
 use Rattle.pmt_trimming.proofs.pass.Pass.take.Goals as goal
 

@@ -1,5 +1,5 @@
 use Rattle.std.proofs.Common.{length, refl, sym, ap, ◌∙◌}
-use Rattle.pmt_model.specs.Pushing.{with_event}
+use Rattle.pmt_model.specs.Traces.{with_event}
 use Rattle.pmt_trimming.proofs.PassingLemmas.{passed}
 use Rattle.pmt_trimming.proofs.SettlingLemmas.{alone-passed, alone-some, alone-none}
 use Rattle.pmt_trimming.proofs.pass.Pass.take_alone.Goals as goal

@@ -1,5 +1,5 @@
 use Rattle.std.proofs.Common.{◌++◌, ℕ, sym, subst, arith}
-use Rattle.pmt_trimming.specs.Leaving.{HaveLeft}
+use Rattle.pmt_trimming.specs.Streaming.{HaveLeft}
 use Rattle.pmt_trimming.proofs.StreamLemmas.{left-popped, all-left, left-is_out}
 use Rattle.pmt_trimming.proofs.stream.Stream.leave.Goals as goal
 

@@ -1,6 +1,6 @@
 use Rattle.std.proofs.Common.{ℕ, List, ◌++◌, length}
 use Rattle.pmt_model.specs.Traces.{Recording}
-use Rattle.pmt_trimming.specs.Leaving.{IsStreamOf}
+use Rattle.pmt_trimming.specs.Streaming.{IsStreamOf}
 use Rattle.pmt_trimming.proofs.stream.Stream.leave.Given as goal
 
 abbrev pub invariant-loop-kept : goal.invariant-loop-kept

@@ -1,5 +1,5 @@
 use Rattle.std.proofs.Common.{◌≡◌, [], refl, inl, arith}
-use Rattle.pmt_model.specs.Pushing.{empty}
+use Rattle.pmt_model.specs.Traces.{empty}
 use Rattle.pmt_trimming.proofs.StreamLemmas.{left-none, left-same, left-is_out}
 use Rattle.pmt_trimming.proofs.stream.Stream.new.Goals as goal
 

@@ -1,7 +1,7 @@
 use Rattle.std.proofs.Common.{◌++◌, ◌∷◌, [], ℕ, List, ap, ◌∙◌, sym, subst, arith}
-use Rattle.pmt_model.specs.Pushing.{with_event}
+use Rattle.pmt_model.specs.Traces.{with_event}
 use Rattle.pmt_text.specs.Spelling.{event_text}
-use Rattle.pmt_trimming.specs.Leaving.{HaveLeft}
+use Rattle.pmt_trimming.specs.Streaming.{HaveLeft}
 use Rattle.pmt_trimming.proofs.StreamLemmas.{left-after, left-alone, alone-left, none-left, left-is_out, no-marks}
 use Rattle.pmt_trimming.proofs.stream.Stream.take_alone.Goals as goal
 

@@ -1,6 +1,6 @@
 use Rattle.std.proofs.Common.{arith, refl, sym, subst, ℕ, List, [], ◌∷◌, ◌++◌, length-append}
-use Rattle.pmt_model.specs.Pushing.{with_event}
-use Rattle.pmt_trimming.specs.Leaving.{HaveLeft}
+use Rattle.pmt_model.specs.Traces.{with_event}
+use Rattle.pmt_trimming.specs.Streaming.{HaveLeft}
 use Rattle.pmt_trimming.proofs.StreamLemmas.{left-next, lines-more}
 use Rattle.pmt_trimming.proofs.stream.Stream.take_behind.Goals as goal
 

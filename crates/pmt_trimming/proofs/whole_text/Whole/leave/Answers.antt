@@ -1,7 +1,7 @@
 use Rattle.std.proofs.Common.{List, ◌+◌, ◌≤◌, length, sym, ap, subst, arith}
 use Rattle.pmt_trimming.specs.LineQueues.{Queued}
 use Rattle.pmt_trimming.specs.Passing.{AreMarks}
-use Rattle.pmt_trimming.specs.WholeTexts.{IsHeldAt}
+use Rattle.pmt_trimming.specs.Streaming.{IsHeldAt}
 use Rattle.pmt_trimming.specs.declared.pass.Mark.{Mark}
 use Rattle.pmt_trimming.proofs.WholeTextLemmas.{whole-after}
 use Rattle.pmt_trimming.proofs.whole_text.Whole.leave.Goals as goal

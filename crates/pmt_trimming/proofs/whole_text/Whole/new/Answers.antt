@@ -1,5 +1,5 @@
 use Rattle.std.proofs.Common.{◌≡◌, [], refl, arith}
-use Rattle.pmt_model.specs.Pushing.{empty}
+use Rattle.pmt_model.specs.Traces.{empty}
 use Rattle.pmt_trimming.proofs.StreamLemmas.{left-none, left-same}
 use Rattle.pmt_trimming.proofs.whole_text.Whole.new.Goals as goal
 

@@ -1,5 +1,5 @@
 use Rattle.std.proofs.Common.{refl, sym, subst, ℕ, List, [], ◌∷◌, ◌++◌}
-use Rattle.pmt_trimming.specs.Leaving.{HaveLeft}
+use Rattle.pmt_trimming.specs.Streaming.{HaveLeft}
 use Rattle.pmt_trimming.proofs.StreamLemmas.{left-next, lines-more}
 use Rattle.pmt_trimming.proofs.whole_text.Whole.take.Goals as goal
 

@@ -1,5 +1,5 @@
 use Rattle.std.proofs.Common.{arith, length-append}
-use Rattle.pmt_model.specs.Pushing.{with_events}
+use Rattle.pmt_model.specs.Traces.{with_events}
 use Rattle.pmt_trimming.proofs.whole_text.Whole.take_all.Goals as goal
 
 pub leave-requires-clause-whole : goal.leave-requires-clause-whole

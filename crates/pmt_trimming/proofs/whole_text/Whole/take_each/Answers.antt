@@ -1,6 +1,6 @@
 use Rattle.std.proofs.Common.{take, subst, arith, length-append, length-take-le}
-use Rattle.pmt_model.specs.Pushing.{with_events}
-use Rattle.pmt_trimming.specs.WholeTexts.{IsWholeOf}
+use Rattle.pmt_model.specs.Traces.{with_events}
+use Rattle.pmt_trimming.specs.Streaming.{IsWholeOf}
 use Rattle.pmt_trimming.proofs.TrimmingLemmas.{events-next}
 use Rattle.pmt_trimming.proofs.whole_text.Whole.take_each.Goals as goal
 

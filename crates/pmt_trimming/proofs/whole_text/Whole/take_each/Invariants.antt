@@ -1,7 +1,6 @@
 use Rattle.std.proofs.Common.{take}
-use Rattle.pmt_model.specs.Pushing.{with_events}
-use Rattle.pmt_model.specs.Traces.{Recording}
-use Rattle.pmt_trimming.specs.WholeTexts.{IsWholeOf}
+use Rattle.pmt_laws.specs.Prelude.{with_events, Recording}
+use Rattle.pmt_trimming.specs.Streaming.{IsWholeOf}
 use Rattle.pmt_trimming.proofs.whole_text.Whole.take_each.Given as goal
 
 abbrev pub invariant-loop-event : goal.invariant-loop-event

@@ -1,6 +1,6 @@
 use Rattle.std.proofs.Common.{ℕ, List, ◌++◌, map, length, refl, sym, ap, subst, ◌∙◌}
 use Rattle.pmt_text.specs.Spelling.{event_text}
-use Rattle.pmt_trimming.specs.Leaving.{HaveLeft}
+use Rattle.pmt_trimming.specs.Streaming.{HaveLeft}
 use Rattle.pmt_trimming.proofs.LengthLemmas.{sum-lengths, cut-lines}
 use Rattle.pmt_trimming.proofs.StreamLemmas.{left-next, lines-more}
 use Rattle.pmt_trimming.proofs.whole_text.Whole.take_lent.Goals as goal
