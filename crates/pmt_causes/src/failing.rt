@@ -1,24 +1,26 @@
 //! Failed assertions, in groups.
 
-ghost use Rattle.std.specs.Prelude.{◌≡◌, ◌≤◌, length, IfOk, OnOk, MatchOption};
+ghost use Rattle.std.specs.Prelude.{◌≡◌, ◌≤◌, length, IfOk, IfSome, OnOk, MatchOption};
 ghost use Rattle.pmt_explain.specs.Prelude.{history, PersistPasses, OrderedPasses, option_map, IsFailureAt, IsPersistFailure, IsOrderedFailure};
-ghost use Rattle.pmt_explain.specs.Following.{AreSafePlaces, AreNextFlushes};
+ghost use Rattle.pmt_explain.specs.Following.{AreSafePlaces, AreNextFlushes, IsUpcoming};
 ghost use Rattle.pmt_causes.specs.Groups.{AreFailureGroups, AreKeyed, IsFailureKey, key_by, with_keyed};
 ghost use Rattle.pmt_causes.specs.Writers.{AreAllWriters};
 
 use crate::failure_keys::{AssertionKind, FailureKey, key_of};
 use crate::grouping::{Group, Keyed, groups};
-use pmt_explain::{LastWriters, SafePlaces, next_flushes, ordered_failure, persist_failure};
+use pmt_explain::{
+    LastWriters, SafePlaces, Upcoming, next_flushes, ordered_failure, persist_failure,
+};
 use pmt_model::{Op, OutOfMemory, Range, Trace};
 use pmt_reasons::Failure;
 use std::alloc::Global;
 
 /// Those of these events that are assertions and fail, in groups by their keys, where `frames` has the numbers of their innermost frames:
 /// those with most members first, and of as many members that with the lowest first one. The failure of each is that which
-/// `pmt_explain::failure` tells.
+/// `pmt_explain::failure` tells. `upcoming` is what comes next after each event, if that is known.
 ///
-/// It takes at most two looks at each event, where the numbers rise, and at each of these assertions what
-/// `pmt_explain::persist_failure` and `ordered_failure` take.
+/// It takes at most a look at each event, where the numbers rise, and at each of these assertions what `pmt_explain::persist_failure` and
+/// `ordered_failure` take; and what `pmt_explain::next_flushes` takes, if what comes next is not known.
 ///
 /// # Errors
 /// Where memory was refused.
@@ -27,10 +29,23 @@ pub fn failure_groups(
     safe: &SafePlaces<'_>,
     frames: &[Option<u64>],
     numbers: &[u64],
+    upcoming: &Option<Upcoming>,
 ) -> Result<Vec<Group<FailureKey>>, OutOfMemory>
+    requires { IfSome upcoming.now (IsUpcoming safe.now.trace.now) }
     ensures { IfOk result (λ groups. AreFailureGroups safe.now.trace.now frames.now numbers.now groups.items) }
 {
-    groups_of(alloc, safe.trace(), safe.places(), frames, numbers)
+    let trace = safe.trace();
+    let places = safe.places();
+    match upcoming {
+        Some(upcoming) => {
+            let flushes = upcoming.flushes.as_slice();
+            groups_of(alloc, trace, places, flushes, frames, numbers)
+        }
+        None => {
+            let flushes = next_flushes(alloc, trace)?;
+            groups_of(alloc, trace, places, flushes.as_slice(), frames, numbers)
+        }
+    }
 }
 
 // Those of these events that are assertions and fail, by cause.
@@ -38,14 +53,15 @@ fn groups_of(
     alloc: Global,
     trace: &Trace,
     safe: &[u64],
+    flushes: &[u64],
     frames: &[Option<u64>],
     numbers: &[u64],
 ) -> Result<Vec<Group<FailureKey>>, OutOfMemory>
-    requires { AreSafePlaces trace.now safe.now }
+    requires safe { AreSafePlaces trace.now safe.now }
+    requires flushes { AreNextFlushes trace.now flushes.now }
     ensures { IfOk result (λ groups. AreFailureGroups trace.now frames.now numbers.now groups.items) }
 {
-    let flushes = next_flushes(alloc, trace)?;
-    let failures = failures_of(alloc, trace, frames, safe, flushes.as_slice(), numbers)?;
+    let failures = failures_of(alloc, trace, frames, safe, flushes, numbers)?;
     let groups = groups(alloc, failures.as_slice())?;
     Ok(groups)
 }

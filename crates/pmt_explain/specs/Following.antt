@@ -4,6 +4,7 @@ use Rattle.pmt_explain.specs.Prelude.{Flushes, Clflushes, Fences, Recording, IsA
 use Rattle.pmt_explain.specs.declared.ahead.Ahead.{Ahead}
 use Rattle.pmt_explain.specs.Numbers.{number_at, Numbers}
 use Rattle.pmt_explain.specs.declared.upcoming.NextFences.{NextFences}
+use Rattle.pmt_explain.specs.declared.upcoming.Upcoming.{Upcoming}
 
 -- This is the first number below `past` that has the property, or `past` where none has it.
 pub record IsFirst (P : ℕ → Type 0) (past first : ℕ) : Type 0 where
@@ -78,6 +79,11 @@ TellsNextFlush T i p = (l : ℕ) → IsOn T l i → IsNextFlush T l i p
 pub record AreNextFlushes (T : Recording) (list : List ℕ) : Type 0 where
   pub size : length list ≡ length T.events
   pub each : (n p : ℕ) → slice_get list n ≡ Some p → TellsNextFlush T (suc n) p
+
+-- What comes next after each event of the trace.
+pub record IsUpcoming (T : Recording) (x : Upcoming) : Type 0 where
+  pub fences : AreOwnFences T x.fences.items
+  pub flushes : AreNextFlushes T x.flushes.items
 
 -- The next fence of thread t.
 abbrev pub fence_of : NextFences → ℕ → ℕ

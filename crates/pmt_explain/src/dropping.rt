@@ -1,23 +1,23 @@
 //! Why each dropped flush or fence is dropped.
 
-ghost use Rattle.std.specs.Prelude.{◌≡◌, ◌+◌, ◌<◌, ◌^◌, if◌then◌else◌, IfOk, OnOk};
+ghost use Rattle.std.specs.Prelude.{◌≡◌, ◌+◌, ◌<◌, ◌^◌, if◌then◌else◌, IfOk, IfSome, OnOk};
 ghost use Rattle.pmt_model.specs.Keeping.{IsKeep};
-ghost use Rattle.pmt_explain.specs.Following.{AreNextFlushes, AreOwnFences};
+ghost use Rattle.pmt_explain.specs.Following.{AreNextFlushes, AreOwnFences, IsUpcoming};
 ghost use Rattle.pmt_explain.specs.Dropping.{AreDropped, has_at as stands_at, with_listed};
 
 use crate::behind::Behind;
 use crate::dropped_event::Dropped;
 use crate::saving::SafePlaces;
-use crate::upcoming::{next_flushes, own_fences};
+use crate::upcoming::{Upcoming, upcoming_of};
 use pmt_model::{OutOfMemory, Selection};
 use pmt_reasons::Reason;
 use std::alloc::Global;
 
 /// The flushes, clflushes and fences of the trace that are dropped, by rising numbers, each with the reason why; `kept` has the events that
-/// are not dropped.
+/// are not dropped, and `upcoming` what comes next after each event, if that is known.
 ///
-/// It takes three looks at each event if one is dropped, and one more at each flush of the line between a dropped flush and the next one of
-/// its thread.
+/// It takes a look at each event if one is dropped, and one more at each flush of the line between a dropped flush and the next one of its
+/// thread; and what `upcoming_of` takes, if that is not known.
 ///
 /// # Errors
 /// Where memory was refused.
@@ -25,8 +25,10 @@ pub fn dropped_events(
     alloc: Global,
     safe: &SafePlaces<'_>,
     kept: &Selection,
+    upcoming: &Option<Upcoming>,
 ) -> Result<Vec<Dropped>, OutOfMemory>
-    requires { IsKeep safe.now.trace.now kept.now }
+    requires kept { IsKeep safe.now.trace.now kept.now }
+    requires upcoming { IfSome upcoming.now (IsUpcoming safe.now.trace.now) }
     ensures { IfOk result (λ list. AreDropped safe.now.trace.now list.items) }
 {
     let trace = safe.trace();
@@ -36,9 +38,29 @@ pub fn dropped_events(
     if count == events {
         return Ok(Vec::new(alloc));
     }
-    let fences = own_fences(alloc, trace)?;
-    let flushes = next_flushes(alloc, trace)?;
-    dropped_before(alloc, safe, kept, fences.as_slice(), flushes.as_slice())
+    match upcoming {
+        Some(upcoming) => dropped_by(alloc, safe, kept, upcoming),
+        None => {
+            let upcoming = upcoming_of(alloc, trace)?;
+            dropped_by(alloc, safe, kept, &upcoming)
+        }
+    }
+}
+
+// The events that are dropped, where this comes next after each event.
+fn dropped_by(
+    alloc: Global,
+    safe: &SafePlaces<'_>,
+    kept: &[u64],
+    upcoming: &Upcoming,
+) -> Result<Vec<Dropped>, OutOfMemory>
+    requires kept { IsKeep safe.now.trace.now kept.now }
+    requires upcoming { IsUpcoming safe.now.trace.now upcoming.now }
+    ensures { IfOk result (λ list. AreDropped safe.now.trace.now list.items) }
+{
+    let fences = upcoming.fences.as_slice();
+    let flushes = upcoming.flushes.as_slice();
+    dropped_before(alloc, safe, kept, fences, flushes)
 }
 
 // Whether the number stands in the list at the place.

@@ -3,11 +3,34 @@
 ghost use Rattle.std.specs.Prelude.{◌≡◌, ◌-◌, ◌<◌, ℕ, slice_index, IfOk, OnOk};
 ghost use Rattle.pmt_model.specs.Traces.{act_of};
 ghost use Rattle.pmt_explain.specs.Numbers.{number_at};
-ghost use Rattle.pmt_explain.specs.Following.{AreNextFlushes, AreOwnFences, fence_by, fence_of, next_before, next_in};
+ghost use Rattle.pmt_explain.specs.Following.{AreNextFlushes, AreOwnFences, IsUpcoming, fence_by, fence_of, next_before, next_in};
 
 use crate::numbers::Numbers;
 use pmt_model::{Format, Op, OutOfMemory, Trace, line_of};
 use std::alloc::Global;
+
+/// What comes next after each event of a trace.
+#[derive(Drop)]
+pub struct Upcoming {
+    /// The next fences, as `own_fences` gives them.
+    pub fences: Vec<u64>,
+    /// The next flushes, as `next_flushes` gives them.
+    pub flushes: Vec<u64>,
+}
+
+/// What comes next after each event of the trace.
+///
+/// It takes two looks at each event, and a look-up at each store and flush.
+///
+/// # Errors
+/// Where memory was refused.
+pub fn upcoming_of(alloc: Global, trace: &Trace) -> Result<Upcoming, OutOfMemory>
+    ensures { IfOk result (IsUpcoming trace.now) }
+{
+    let fences = own_fences(alloc, trace)?;
+    let flushes = next_flushes(alloc, trace)?;
+    Ok(Upcoming { fences, flushes })
+}
 
 /// Of each event, in order, the next fence of its thread; one more than the last number where there is none.
 ///

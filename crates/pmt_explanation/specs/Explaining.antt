@@ -1,7 +1,7 @@
 -- What an explanation has of each kind: the findings that are asked for, their groups, and hints.
-use Rattle.std.specs.Prelude.{ℕ, ◌||◌, Bool, List, filter, Option, map, not, None, Some, ◌≡◌, ◌++◌, ◌-◌, length, take, count_by, is_some}
+use Rattle.std.specs.Prelude.{ℕ, ◌||◌, Bool, List, filter, Option, map, not, None, Some, ◌≡◌, ◌++◌, ◌-◌, length, take, count_by, is_some, IfSome}
 use Rattle.pmt_model.specs.Traces.{Recording}
-use Rattle.pmt_explanation.specs.Prelude.{Dropped, Overwriting, Hint, Group, Keyed, LateSpot, AreGrouped, first_in, AreFailureGroups, lost_item, AreLateItems, AreWaited, AreThose, IsOneLineShort, IsSplitWord, IsStoredAfterFlush, IsStoredAfterMark, IsToldOnPath, IsToldOpen, AreHintsOf, ArePathHintsOf, HintKind, OneLineShort, OpenAtStore, SplitWord, StoredAfterFlush, StoredAfterMark, AreDropped, event_of, AreLostGroups, AreOverwrittenGroups, dropped_item, AreLeftPaths, ArePaths, ArePlaces, PlaceTable, Choice, Kind, Labels, Unwritten, is_asked_for, is_left_out, Ignored, failing_events, AreShown, IsShown, unwritten_of, Options, AreEntries, ShownFailure}
+use Rattle.pmt_explanation.specs.Prelude.{Dropped, Overwriting, Hint, Group, Keyed, LateSpot, AreGrouped, first_in, AreFailureGroups, lost_item, AreLateItems, AreWaited, AreThose, IsOneLineShort, IsSplitWord, IsStoredAfterFlush, IsStoredAfterMark, IsToldOnPath, IsToldOpen, AreHintsOf, ArePathHintsOf, HintKind, OneLineShort, OpenAtStore, SplitWord, StoredAfterFlush, StoredAfterMark, AreDropped, event_of, AreLostGroups, AreOverwrittenGroups, dropped_item, AreLeftPaths, ArePaths, ArePlaces, PlaceTable, Choice, Kind, Labels, Unwritten, is_asked_for, is_left_out, Ignored, failing_events, AreShown, IsShown, unwritten_of, Options, AreEntries, ShownFailure, IsUpcoming}
 use Rattle.std.specs.List.{filter_map, All}
 use Rattle.pmt_model.specs.declared.finding.Finding.{Finding}
 use Rattle.pmt_model.specs.declared.finding.Finding.TheVariants.{Overwritten, NeverPersisted, RedundantFlush, FenceWithoutFlush}
@@ -131,6 +131,7 @@ pub record AreHints (T : Recording) (frames paths : List (Option ℕ)) (hints : 
 
 -- What the others need.
 pub record AreFirsts (a : Analysed) (labels : Labels) (frames : List (Option ℕ)) (o : Options) (x : Firsts) : Type 0 where
+  pub upcoming : IfSome x.upcoming (IsUpcoming a.trace)
   pub dropped : AreDropped a.trace x.dropped.items
   pub waited : AreWaited a.trace x.waited.items
   pub late : AreAskedLate a.trace frames (is_asked_for a.trace labels o.choice kinds.Late) x.late.items

@@ -1,5 +1,5 @@
 -- The names that explanations and their JSON cite of the crates below, types too. Declares nothing.
-pub use Rattle.pmt_explain.specs.Following.{past_of, IsSafePlace, TellsSafe}
+pub use Rattle.pmt_explain.specs.Following.{past_of, IsSafePlace, IsUpcoming, TellsSafe}
 pub use Rattle.pmt_explain.specs.Prelude.{Stores, Ends, Recording, IsAct, history, count_at, Written, IsSafe, IsPending}
 pub use Rattle.pmt_entries.specs.Entries.{AreEntries, is_any_with}
 pub use Rattle.pmt_entries.specs.Prelude.{Cause, ByteStore, Reason, Mend, mend_of, StoredByte, CrashByte, Dropped, LostGroup, OverwrittenGroup, FailureKey, Group, LateSpot, first_in, Origin, PlaceRow, SavedBefore, Hint, HintKind, LineCount, Label, Line, AssertionKind, Persist, Ordered, CauseKind, Later, Unflushed, Unfenced, OneLineShort, OpenAtStore, SplitWord, StoredAfterFlush, StoredAfterMark, Picks, AreGroups, Keyed, AreFailureGroups, IsKeyed, AreGrouped, IsIn, Tells, AreDropped, AreWaited, lost_item, AreLostGroups, Overwriting, AreLateItems, AreThose, IsOneLineShort, IsSplitWord, IsStoredAfterFlush, IsStoredAfterMark, IsToldOnPath, IsToldOpen, AreHintsOf, ArePathHintsOf, event_of, AreOverwrittenGroups, dropped_item, AreLeftPaths, ArePaths, ArePlaces, PlaceTable}

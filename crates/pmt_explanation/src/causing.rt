@@ -1,30 +1,34 @@
 //! Findings in groups, by what they have in common.
-ghost use Rattle.std.specs.Prelude.{◌≡◌, IfOk};
+ghost use Rattle.std.specs.Prelude.{◌≡◌, IfOk, IfSome};
 ghost use Rattle.pmt_entries.specs.Prelude.{AreFailureGroups, first_in, AreWaited};
 ghost use Rattle.pmt_asked.specs.Choosing.{is_asked_for as asked_for};
+ghost use Rattle.pmt_explanation.specs.Prelude.{IsUpcoming};
 ghost use Rattle.pmt_explanation.specs.Explaining.{AreAskedLate, first_members as first_members_of};
 ghost use Rattle.pmt_asked.specs.declared.choosing.Kind.TheVariants.{Late};
 
 use crate::asking::keep_asked;
 use pmt_asked::{Choice, Labels};
 use pmt_causes::{FailureKey, Group, LateSpot, LateStores, failure_groups, groups, late_stores};
-use pmt_explain::SafePlaces;
+use pmt_explain::{SafePlaces, Upcoming};
 use pmt_model::OutOfMemory;
 use std::alloc::Global;
 
-// Those of these events that fail, by cause. The trace is looked at only where there are any.
+// Those of these events that fail, by cause, where this comes next after each event, if that is known. The trace is looked at only where
+// there are any.
 pub(crate) fn causes_of(
     alloc: Global,
     safe: &SafePlaces<'_>,
     frames: &[Option<u64>],
     failing: &[u64],
+    upcoming: &Option<Upcoming>,
 ) -> Result<Vec<Group<FailureKey>>, OutOfMemory>
+    requires { IfSome upcoming.now (IsUpcoming safe.now.trace.now) }
     ensures { IfOk result (λ groups. AreFailureGroups safe.now.trace.now frames.now failing.now groups.items) }
 {
     if failing.is_empty() {
         return Ok(Vec::new(alloc));
     }
-    failure_groups(alloc, safe, frames, failing)
+    failure_groups(alloc, safe, frames, failing, upcoming)
 }
 
 // The first member of each of these groups.

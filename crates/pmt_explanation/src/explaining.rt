@@ -5,6 +5,7 @@ ghost use Rattle.pmt_asked.specs.declared.options.Options.{Options};
 ghost use Rattle.pmt_asked.specs.declared.labels.Labels.{Labels};
 ghost use Rattle.pmt_explain.specs.Following.{AreSafePlaces};
 
+use crate::firsts::Firsts;
 use crate::found::{Begun, Found, found_of};
 use crate::frames::frame_numbers;
 use crate::numbering::label_numbers;
@@ -163,6 +164,12 @@ fn explained(analysis: Analysis, limit: usize, parts: Parts) -> Explanation
         risks,
         early: _,
     } = begun;
+    let Firsts {
+        upcoming: _,
+        dropped,
+        waited,
+        late,
+    } = firsts;
     let Risks { lost, broken } = risks;
     let Lost {
         stores,
@@ -183,11 +190,11 @@ fn explained(analysis: Analysis, limit: usize, parts: Parts) -> Explanation
         ignored_never_persisted: losses.ignored,
         lost: losses.groups,
         lost_causes: losses.causes,
-        dropped: firsts.dropped,
+        dropped,
         asked_dropped: drops.asked,
         dropped_groups: drops.groups,
-        late: firsts.late,
-        waited: firsts.waited,
+        late,
+        waited,
         places: table.places,
         paths: table.paths,
         left_paths: table.left_paths,

@@ -1,6 +1,7 @@
 //! What an explanation has of assertions that fail.
-ghost use Rattle.std.specs.Prelude.{◌≡◌, take, IfOk};
+ghost use Rattle.std.specs.Prelude.{◌≡◌, take, IfOk, IfSome};
 ghost use Rattle.pmt_causes.specs.Groups.{AreFailureGroups};
+ghost use Rattle.pmt_explanation.specs.Prelude.{IsUpcoming};
 ghost use Rattle.pmt_explanation.specs.Explaining.{asked_numbers as numbers_asked, first_members as firsts_of};
 ghost use Rattle.pmt_failures.specs.Showing.{failing_events as failing_of, AreShown};
 ghost use Rattle.pmt_asked.specs.declared.choosing.Kind.TheVariants.{Failure};
@@ -9,7 +10,7 @@ use crate::asking::asked_numbers;
 use crate::causing::{causes_of, first_members};
 use pmt_asked::{Kind, Labels, Options};
 use pmt_causes::{FailureKey, Group, first};
-use pmt_explain::SafePlaces;
+use pmt_explain::{SafePlaces, Upcoming};
 use pmt_failures::{ShownFailure, failing_events, shown_failures};
 use pmt_model::{OutOfMemory, Verdict};
 use std::alloc::Global;
@@ -28,7 +29,7 @@ pub(crate) struct Failed {
 }
 
 // The assertions that fail by these verdicts of the trace of these places, where the events have these numbers of
-// innermost frames.
+// innermost frames, and this comes next after each, if that is known.
 pub(crate) fn failed_of(
     alloc: Global,
     safe: &SafePlaces<'_>,
@@ -36,7 +37,9 @@ pub(crate) fn failed_of(
     labels: &Labels,
     frames: &[Option<u64>],
     options: &Options,
+    upcoming: &Option<Upcoming>,
 ) -> Result<Failed, OutOfMemory>
+    requires { IfSome upcoming.now (IsUpcoming safe.now.trace.now) }
     ensures failing { IfOk result (λ f. f.failing.items ≡ failing_of verdicts.now) }
     ensures asked { IfOk result (λ f. f.asked.items ≡ numbers_asked safe.now.trace.now labels.now options.now.choice Failure f.failing.items) }
     ensures causes { IfOk result (λ f. AreFailureGroups safe.now.trace.now frames.now f.asked.items f.causes.items) }
@@ -51,7 +54,7 @@ pub(crate) fn failed_of(
         Kind::Failure,
         failing.as_slice(),
     )?;
-    let causes = causes_of(alloc, safe, frames, asked.as_slice())?;
+    let causes = causes_of(alloc, safe, frames, asked.as_slice(), upcoming)?;
     let firsts = first_members(alloc, causes.as_slice())?;
     let few = first(firsts.as_slice(), options.limit);
     let shown = shown_failures(alloc, safe, few)?;

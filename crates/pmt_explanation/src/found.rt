@@ -1,13 +1,17 @@
 //! What is found in an analysed trace, by up to four threads side by side: first what the analysis alone tells, and then what needs that.
-ghost use Rattle.std.specs.Prelude.{◌≡◌, ℕ, IfOk, List, Option};
+ghost use Rattle.std.specs.Prelude.{◌≡◌, ℕ, IfOk, IfSome, List, Option};
 ghost use Rattle.std.specs.Thread.{IsSync};
-ghost use Rattle.pmt_explanation.specs.Explaining.{AreBegun, AreBroken, AreDrops, AreFirsts, AreFound, AreLost, ArePlacesOf, AreTold, AreEarly, AreHints, AreLate};
+ghost use Rattle.pmt_asked.specs.Choosing.{is_asked_for as asked_for};
+ghost use Rattle.pmt_asked.specs.declared.choosing.Kind.TheVariants.{Late};
+ghost use Rattle.pmt_explanation.specs.Prelude.{AreDropped, AreWaited, IsUpcoming};
+ghost use Rattle.pmt_explanation.specs.Explaining.{AreAskedLate, AreBegun, AreBroken, AreDrops, AreFound, AreLost, ArePlacesOf, AreTold, AreEarly, AreHints, AreLate};
 
 use crate::asking::asked_hints;
+use crate::causing::{AskedLate, asked_late};
 use crate::drops::{Drops, drops_of};
-use crate::firsts::{Firsts, firsts_of};
+use crate::firsts::{Firsts, Following, following_of};
 use crate::hinting::{EarlyHints, LateHints, early_hints, hints_in_order, late_hints};
-use crate::risks::{Broken, Lost, Risks, broken_of, lost_of};
+use crate::risks::{Lost, Risks, lost_of};
 use pmt_analysis::Analysis;
 use pmt_asked::{Labels, Options};
 use pmt_entries::{Entries, entries_of};
@@ -56,8 +60,8 @@ pub(crate) struct Begun {
 // What is lost, and hints.
 type Missed = (Result<Lost, OutOfMemory>, Result<EarlyHints, OutOfMemory>);
 
-// These, and what fails or is overwritten.
-type Risked = (Missed, Result<Broken, OutOfMemory>);
+// The late stores, and these.
+type Beside = (Result<AskedLate, OutOfMemory>, Missed);
 
 // What each place has, and the other hints.
 type Placed = (
@@ -159,32 +163,47 @@ fn begun_of<R: Threads + Sync>(
     requires { safe.now.trace.now ≡ analysis.now.trace }
     ensures { IfOk result (AreBegun analysis.now labels.now numbers.now frames.now options.now) }
 {
-    let (firsts, ((lost, early), broken)) = join_mut(
+    let (following, (late, (lost, early))) = join_mut(
         rt,
-        &mut || -> Result<Firsts, OutOfMemory>
+        &mut || -> Result<Following, OutOfMemory>
             requires { IsSync R.row × (safe.now.trace.now ≡ analysis.now.trace) }
-            ensures { IfOk result (AreFirsts analysis.entry.now labels.entry.now frames.entry.now options.entry.now) }
-        { firsts_of(rt, alloc, analysis, safe, labels, frames, options) },
-        &mut || -> Risked
+            ensures upcoming { IfOk result (λ x. IfSome x.upcoming (IsUpcoming analysis.entry.now.trace)) }
+            ensures dropped { IfOk result (λ x. AreDropped analysis.entry.now.trace x.dropped.items) }
+            ensures broken { IfOk result (λ x. AreBroken analysis.entry.now labels.entry.now frames.entry.now options.entry.now x.broken) }
+        { following_of(rt, alloc, analysis, safe, labels, frames, options) },
+        &mut || -> Beside
             requires { IsSync R.row × (safe.now.trace.now ≡ analysis.now.trace) }
-            ensures lost { IfOk result.0.0 (AreLost analysis.entry.now labels.entry.now frames.entry.now options.entry.now) }
-            ensures early { IfOk result.0.1 (AreEarly analysis.entry.now.trace frames.entry.now numbers.entry.now) }
-            ensures broken { IfOk result.1 (AreBroken analysis.entry.now labels.entry.now frames.entry.now options.entry.now) }
-        { risked_of(rt, alloc, analysis, safe, labels, numbers, frames, options) },
+            ensures waited { IfOk result.0 (λ x. AreWaited analysis.entry.now.trace x.waited.items) }
+            ensures late { IfOk result.0 (λ x. AreAskedLate analysis.entry.now.trace frames.entry.now (asked_for analysis.entry.now.trace labels.entry.now options.entry.now.choice Late) x.groups.items) }
+            ensures lost { IfOk result.1.0 (AreLost analysis.entry.now labels.entry.now frames.entry.now options.entry.now) }
+            ensures early { IfOk result.1.1 (AreEarly analysis.entry.now.trace frames.entry.now numbers.entry.now) }
+        { beside_of(rt, alloc, analysis, safe, labels, numbers, frames, options) },
     );
-    let firsts = firsts?;
+    let Following {
+        upcoming,
+        dropped,
+        broken,
+    } = following?;
+    let AskedLate {
+        waited,
+        groups: late,
+    } = late?;
     let lost = lost?;
     let early = early?;
-    let broken = broken?;
     Ok(Begun {
-        firsts,
+        firsts: Firsts {
+            upcoming,
+            dropped,
+            waited,
+            late,
+        },
         risks: Risks { lost, broken },
         early,
     })
 }
 
-// What is lost and hints that need none of it, beside what fails or is overwritten.
-fn risked_of<R: Threads + Sync>(
+// Late stores, beside what is lost and hints that need none of it.
+fn beside_of<R: Threads + Sync>(
     rt: &R,
     alloc: Global,
     analysis: &Analysis,
@@ -193,16 +212,18 @@ fn risked_of<R: Threads + Sync>(
     numbers: &[Option<u64>],
     frames: &[Option<u64>],
     options: &Options,
-) -> Risked
+) -> Beside
     requires { safe.now.trace.now ≡ analysis.now.trace }
-    ensures lost { IfOk result.0.0 (AreLost analysis.now labels.now frames.now options.now) }
-    ensures early { IfOk result.0.1 (AreEarly analysis.now.trace frames.now numbers.now) }
-    ensures broken { IfOk result.1 (AreBroken analysis.now labels.now frames.now options.now) }
+    ensures waited { IfOk result.0 (λ x. AreWaited analysis.now.trace x.waited.items) }
+    ensures late { IfOk result.0 (λ x. AreAskedLate analysis.now.trace frames.now (asked_for analysis.now.trace labels.now options.now.choice Late) x.groups.items) }
+    ensures lost { IfOk result.1.0 (AreLost analysis.now labels.now frames.now options.now) }
+    ensures early { IfOk result.1.1 (AreEarly analysis.now.trace frames.now numbers.now) }
 {
+    let choice = &options.choice;
     join_mut(
         rt,
+        &mut || asked_late(alloc, safe, labels, frames, choice),
         &mut || missed_of(alloc, analysis, labels, numbers, frames, options),
-        &mut || broken_of(alloc, analysis, safe, labels, frames, options),
     )
 }
 
@@ -258,9 +279,10 @@ fn placed_of<R: Threads + Sync>(
     let dropped = begun.firsts.dropped.as_slice();
     let waited = begun.firsts.waited.as_slice();
     let stores = begun.risks.lost.stores.as_slice();
+    let upcoming = &begun.firsts.upcoming;
     join_mut(
         rt,
         &mut || place_table(alloc, safe, waited, frames, numbers, stores, dropped),
-        &mut || late_hints(alloc, safe, waited, frames),
+        &mut || late_hints(alloc, safe, waited, frames, upcoming),
     )
 }

@@ -1,10 +1,10 @@
 //! All hints of a trace.
-ghost use Rattle.std.specs.Prelude.{◌≡◌, ◌++◌, IfOk};
-ghost use Rattle.pmt_causes.specs.Late.{AreWaited};
+ghost use Rattle.std.specs.Prelude.{◌≡◌, ◌++◌, IfOk, IfSome};
+ghost use Rattle.pmt_explanation.specs.Prelude.{AreWaited, IsUpcoming};
 ghost use Rattle.pmt_explanation.specs.Explaining.{AreEarly, AreLate, AreOpenHints};
 
 use pmt_analysis::Analysis;
-use pmt_explain::SafePlaces;
+use pmt_explain::{SafePlaces, Upcoming};
 use pmt_hints::{
     Hint, HintKind, hints_of, one_line_short, path_hints_of, split_words, stored_after_flush,
     stored_after_mark, told_on_paths, told_open,
@@ -60,18 +60,21 @@ pub(crate) fn early_hints(
     })
 }
 
-// The other hints of the trace of these safe places, if its events wait for so many fences.
+// The other hints of the trace of these safe places, if its events wait for so many fences, and this comes next after each, if that is
+// known.
 pub(crate) fn late_hints(
     alloc: Global,
     safe: &SafePlaces<'_>,
     waited: &[u64],
     frames: &[Option<u64>],
+    upcoming: &Option<Upcoming>,
 ) -> Result<LateHints, OutOfMemory>
-    requires { AreWaited safe.now.trace.now waited.now }
+    requires waited { AreWaited safe.now.trace.now waited.now }
+    requires upcoming { IfSome upcoming.now (IsUpcoming safe.now.trace.now) }
     ensures { IfOk result (AreLate safe.now.trace.now frames.now) }
 {
     let trace = safe.trace();
-    let after = stored_after_flush(alloc, safe, waited)?;
+    let after = stored_after_flush(alloc, safe, waited, upcoming)?;
     let kind = HintKind::StoredAfterFlush;
     let stores = hints_of(alloc, trace, frames, kind, after.numbers())?;
     let short = one_line_short(alloc, safe, waited, frames)?;

@@ -1,5 +1,6 @@
 //! What an explanation has of what a crash may lose, in two parts that need nothing of each other.
-ghost use Rattle.std.specs.Prelude.{◌≡◌, IfOk};
+ghost use Rattle.std.specs.Prelude.{◌≡◌, IfOk, IfSome};
+ghost use Rattle.pmt_explanation.specs.Prelude.{IsUpcoming};
 ghost use Rattle.pmt_explanation.specs.Explaining.{asked_unwritten, AreBroken, AreLost};
 ghost use Rattle.pmt_failures.specs.Showing.{unwritten_of};
 
@@ -10,7 +11,7 @@ use crate::losses::{Losses, losses_of};
 use crate::overwrites::{Overwrites, overwrites_of};
 use pmt_analysis::Analysis;
 use pmt_asked::{Choice, Labels, Options};
-use pmt_explain::SafePlaces;
+use pmt_explain::{SafePlaces, Upcoming};
 use pmt_failures::{Unwritten, unwritten_assertions};
 use pmt_model::{OutOfMemory, Trace};
 use std::alloc::Global;
@@ -69,7 +70,7 @@ pub(crate) fn lost_of(
 }
 
 // The assertions that fail in the trace that was analysed, where its events have these numbers of innermost frames, and its stores that
-// are overwritten.
+// are overwritten. `upcoming` is what comes next after each event, if that is known.
 pub(crate) fn broken_of(
     alloc: Global,
     analysis: &Analysis,
@@ -77,12 +78,14 @@ pub(crate) fn broken_of(
     labels: &Labels,
     frames: &[Option<u64>],
     options: &Options,
+    upcoming: &Option<Upcoming>,
 ) -> Result<Broken, OutOfMemory>
-    requires { safe.now.trace.now ≡ analysis.now.trace }
+    requires same { safe.now.trace.now ≡ analysis.now.trace }
+    requires upcoming { IfSome upcoming.now (IsUpcoming safe.now.trace.now) }
     ensures { IfOk result (AreBroken analysis.now labels.now frames.now options.now) }
 {
     let verdicts = analysis.verdicts();
-    let failed = failed_of(alloc, safe, verdicts, labels, frames, options)?;
+    let failed = failed_of(alloc, safe, verdicts, labels, frames, options, upcoming)?;
     let overwrites = overwrites_of(alloc, analysis, labels, options)?;
     Ok(Broken { failed, overwrites })
 }

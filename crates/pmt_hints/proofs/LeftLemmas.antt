@@ -192,10 +192,17 @@ left-those T waited safe fences flushes stores are_safe are_waited are_fences ar
     back zero h = absurd (omega (arith, (stored-bound T zero h).0))
     back (suc n) h = ((x.just (suc n)).1 (h.after, must-left T waited safe n are_safe are_waited h), (fenced-told T fences flushes n are_fences are_flushes h.after).1 h)
 
-pub left-nothing : (T : Recording) (waited safe stores : List ℕ) → AreSafePlaces T safe → AreWaited T waited → AreThose (IsLeftOpen T waited safe) stores → length stores ≡ 0 → AreThose (IsStoredAfterFlush T) stores
-left-nothing T waited safe [] are_safe are_waited x none = record { rising = tt; just = λ i. (λ h. absurd h, λ h. absurd (never i h)) }
+-- where none of the stores that are left unsafe is fenced first
+pub none-first : (T : Recording) (waited safe fences flushes : List ℕ) → AreSafePlaces T safe → AreWaited T waited → AreOwnFences T fences → AreNextFlushes T flushes → ((k : ℕ) → k < length safe → left_unsafe (get_or waited k 0) (get_or safe k 0) (length safe) ≡ true → is_fenced_first fences flushes (suc k) ≡ false) →
+    AreThose (IsStoredAfterFlush T) []
+none-first T waited safe fences flushes are_safe are_waited are_fences are_flushes none = record { rising = tt; just = λ i. (λ h. absurd h, λ h. absurd (never i h)) }
   where
     never : (i : ℕ) → IsStoredAfterFlush T i → ⊥
     never zero h = omega (arith, (stored-bound T zero h).0)
-    never (suc n) h = (x.just (suc n)).1 (h.after, must-left T waited safe n are_safe are_waited h)
-left-nothing T waited safe (k ∷ ks) are_safe are_waited x none = absurd (omega (arith, none))
+    never (suc n) h =
+        let within : n < length safe = omega (arith, (stored-bound T (suc n) h).1, are_safe.size) in
+        let here : suc n - 1 ≡ n = omega arith in
+        let left : left_unsafe (get_or waited n 0) (get_or safe n 0) (length safe) ≡ true =
+        ap (left_unsafe (get_or waited n 0) (get_or safe n 0)) are_safe.size ∙ sym (ap (λ k. left_unsafe (get_or waited k 0) (get_or safe k 0) (length T.events)) here) ∙ must-left T waited safe n are_safe are_waited h
+        in
+        true≢false (sym ((fenced-told T fences flushes n are_fences are_flushes h.after).1 h) ∙ none n within left)

@@ -1,6 +1,6 @@
 -- Of which places flushes are told as open at a store.
-use Rattle.std.proofs.Common.{◌≡◌, ℕ, ◌⊎◌, inl, inr, Bool, true, false, List, [], ◌∷◌, Option, None, Some, refl, sym, ap, ◌∙◌}
-use Rattle.std.specs.Prelude.{◌||◌, not}
+use Rattle.std.proofs.Common.{◌≡◌, ℕ, ◌⊎◌, inl, inr, Bool, true, false, List, [], ◌∷◌, Option, None, Some, refl, sym, ap, ◌∙◌, arith}
+use Rattle.std.specs.Prelude.{◌||◌, ◌&&◌, if◌then◌else◌, not}
 use Rattle.std.proofs.lemmas.Bool.{false≢true}
 use Rattle.std.proofs.lemmas.Option.{none-some, same_Some}
 use Rattle.pmt_laws.specs.Prelude.{Event, Op, Store, Clwb, ClflushOpt, Clflush, Sfence, Mfence, IsPersist, IsOrderedBefore, Layout, line_of, Flushes, Recording, IsAct, act_of, event, IsRising, Has, IsKeep, filter, list_any}
@@ -8,7 +8,7 @@ use Rattle.pmt_causes.specs.declared.failure_keys.Origin.{Origin}
 use Rattle.pmt_causes.specs.Groups.{origin_of}
 use Rattle.pmt_hints.specs.Hints.{AreThose, IsOpenFlush, IsOpenThroughout}
 use Rattle.pmt_hints.specs.declared.places.Places.{Places}
-use Rattle.pmt_hints.specs.Contrasts.{has_place, is_closed, op_place, place_of, told_so}
+use Rattle.pmt_hints.specs.Contrasts.{has_place, is_closed, is_place, op_place, place_of, told_so}
 use Rattle.pmt_hints.proofs.OpenAtLemmas.{filter-has, filter-rising}
 
 -- a test that some number of a list passes
@@ -64,6 +64,15 @@ place-flush T labels i q e = go (event T i) refl e
 -- one number more
 pub closed-more : (a b c d : Bool) → a ≡ (b || c) → b ≡ d → a ≡ (d || c)
 closed-more a b c d is same = is ∙ ap (λ x. x || c) same
+
+-- a test of those that pass another one
+pub any-sifted : (p f : ℕ → Bool) (xs : List ℕ) → list_any (λ i. p i && f i) xs ≡ list_any f (filter p xs)
+any-sifted p f [] = refl
+any-sifted p f (x ∷ xs) = grind (arith, any-sifted p f xs)
+
+pub place-unless : (p : Origin) (b : Bool) (o : Option Origin) → is_place p (if b then None else o) ≡ (not b && is_place p o)
+place-unless p true o = refl
+place-unless p false o = refl
 
 pub not-true-false : (b : Bool) → not b ≡ true → b ≡ false
 not-true-false true e = sym e

@@ -1,18 +1,18 @@
 //! Flushes that their thread has not fenced when it stores to another line.
 
-ghost use Rattle.std.specs.Prelude.{◌≡◌, ◌<◌, ℕ, true, length, not, filter, IfOk, OnOk};
+ghost use Rattle.std.specs.Prelude.{◌≡◌, ◌<◌, ℕ, None, true, if◌then◌else◌, length, not, filter, IfOk, OnOk};
 ghost use Rattle.pmt_model.specs.Traces.{act_of, event};
 ghost use Rattle.pmt_model.specs.Analyses.{IsVerdicts};
 ghost use Rattle.pmt_model.specs.Keeping.{IsKeep};
 ghost use Rattle.pmt_tables.specs.Flags.{is_kept_at};
 ghost use Rattle.pmt_hints.specs.Hints.{AreThose, IsOpenAtStore, IsOpenFlush, IsOpenThroughout, IsToldOnPath, IsToldOpen, AreFlags};
 ghost use Rattle.pmt_hints.specs.Numbers.{open_so};
-ghost use Rattle.pmt_hints.specs.Contrasts.{AreClosed, is_closed as is_closed_in, told_so};
+ghost use Rattle.pmt_hints.specs.Contrasts.{AreClosed, is_closed as is_closed_in, place_of, told_so};
 
 use crate::claims::excused_flushes;
 use crate::named::claimed_stores;
 use crate::next_stores::NextStores;
-use crate::numbers::{is_flagged, selection_of, unflagged};
+use crate::numbers::{is_flagged, selection_of};
 use crate::per_thread::PerThread;
 use crate::places::{Places, flush_place};
 use crate::waiting::has_store_while_open;
@@ -132,10 +132,43 @@ fn open_throughout(
     if open.is_empty() {
         return Ok(selection_of(open));
     }
-    let others = unflagged(alloc, numbers, flags)?;
-    let closed = closed_places(alloc, trace, labels, others.as_slice())?;
+    let closed = places_but(alloc, trace, labels, numbers, flags)?;
     let told = told_numbers(alloc, trace, labels, open.as_slice(), &closed)?;
     Ok(selection_of(told))
+}
+
+// The places of those of these flushes that are not flagged.
+fn places_but(
+    alloc: Global,
+    trace: &Trace,
+    labels: &[Option<u64>],
+    numbers: &[u64],
+    flags: &[bool],
+) -> Result<Places, OutOfMemory>
+    ensures { IfOk result (AreClosed trace.now labels.now (filter (λ i. not (is_kept_at flags.now i)) numbers.now)) }
+{
+    let mut closed = Places::new(alloc, labels)?;
+    for number in numbers {
+        closed.add(place_unless(flags, trace, labels, *number))?;
+    }
+    Ok(closed)
+}
+
+// The place of the flush with this number, unless it is flagged.
+#[inline(always)]
+fn place_unless(
+    flags: &[bool],
+    trace: &Trace,
+    labels: &[Option<u64>],
+    number: u64,
+) -> Option<Origin>
+    ensures { result ≡ (if is_kept_at flags.now number then None else place_of labels.now number (event trace.now number)) }
+{
+    if is_flagged(flags, number) {
+        None
+    } else {
+        flush_place(trace, labels, number)
+    }
 }
 
 // The places of these flushes.

@@ -1,8 +1,8 @@
 //! Stores to a line that their thread has flushed before and not fenced since.
 
-ghost use Rattle.std.specs.Prelude.{◌≡◌, ◌<◌, ◌&&◌, ℕ, Some, false, length, slice_get, slice_index_or, filter, IfOk};
+ghost use Rattle.std.specs.Prelude.{◌≡◌, ◌<◌, ◌&&◌, ℕ, suc, Some, true, false, length, slice_get, slice_index_or, filter, IfOk, IfSome};
 ghost use Rattle.pmt_model.specs.Traces.{act_of};
-ghost use Rattle.pmt_explain.specs.Following.{AreSafePlaces};
+ghost use Rattle.pmt_explain.specs.Following.{AreSafePlaces, IsUpcoming};
 ghost use Rattle.pmt_causes.specs.Late.{AreWaited};
 ghost use Rattle.pmt_hints.specs.Hints.{AreThose, IsStoredAfterFlush};
 ghost use Rattle.pmt_hints.specs.Leaving.{IsLeftOpen, is_fenced_first as is_fenced_first_in};
@@ -13,7 +13,7 @@ use crate::flushers::{LastFlushes, last_flush, note_flush};
 use crate::numbers::{push_if, selection_of};
 use crate::per_thread::PerThread;
 use crate::waiting::has_store_while_open;
-use pmt_explain::{SafePlaces, next_flushes, number_of, own_fences};
+use pmt_explain::{SafePlaces, Upcoming, number_of, upcoming_of};
 use pmt_model::{Format, Op, OutOfMemory, Selection, Trace, line_of};
 use std::alloc::Global;
 use std::collections::HashMap;
@@ -23,9 +23,12 @@ use std::collections::HashMap;
 ///
 /// `waited` is for how many fences each event of the trace of these places waits.
 ///
+/// `upcoming` is what comes next after each event, if that is known.
+///
 /// It takes one look at each event, and another one if a fence of its thread leaves a store unsafe, or one is never safe. If a thread stores
-/// while it has a flush open, it takes one more, with a look-up at each flush and each of these stores, and keeps a number of each line; if such
-/// a store comes after its flush, it takes two more, with a look-up at each store and flush.
+/// while it has a flush open, it takes one more, and what `pmt_explain::upcoming_of` takes, if what comes next is not known. If a store's own
+/// fence then comes before the next flush of its line, it takes another one, with a look-up at each flush and each such store, and keeps a
+/// number of each line.
 ///
 /// # Errors
 /// Where memory was refused.
@@ -33,8 +36,10 @@ pub fn stored_after_flush(
     alloc: Global,
     safe: &SafePlaces<'_>,
     waited: &[u64],
+    upcoming: &Option<Upcoming>,
 ) -> Result<Selection, OutOfMemory>
-    requires { AreWaited safe.now.trace.now waited.now }
+    requires waited { AreWaited safe.now.trace.now waited.now }
+    requires upcoming { IfSome upcoming.now (IsUpcoming safe.now.trace.now) }
     ensures { IfOk result (AreThose (IsStoredAfterFlush safe.now.trace.now)) }
 {
     let trace = safe.trace();
@@ -44,7 +49,7 @@ pub fn stored_after_flush(
     if !has_store_while_open(trace) {
         return Ok(selection_of(Vec::new(alloc)));
     }
-    let numbers = stores_left(alloc, trace, safe.places(), waited)?;
+    let numbers = stores_left(alloc, trace, safe.places(), waited, upcoming)?;
     Ok(selection_of(numbers))
 }
 
@@ -85,23 +90,57 @@ fn stores_left(
     trace: &Trace,
     places: &[u64],
     waited: &[u64],
+    upcoming: &Option<Upcoming>,
 ) -> Result<Vec<u64>, OutOfMemory>
     requires places { AreSafePlaces trace.now places.now }
     requires waited { AreWaited trace.now waited.now }
+    requires upcoming { IfSome upcoming.now (IsUpcoming trace.now) }
     ensures { IfOk result (λ numbers. AreThose (IsStoredAfterFlush trace.now) numbers.items) }
 {
-    let open = open_stores(alloc, trace, places, waited)?;
-    if open.is_empty() {
-        return Ok(open);
+    match upcoming {
+        Some(upcoming) => stores_by(alloc, trace, places, waited, upcoming),
+        None => {
+            let upcoming = upcoming_of(alloc, trace)?;
+            stores_by(alloc, trace, places, waited, &upcoming)
+        }
     }
-    let fences = own_fences(alloc, trace)?;
-    let flushes = next_flushes(alloc, trace)?;
-    fenced_first(
-        alloc,
-        open.as_slice(),
-        fences.as_slice(),
-        flushes.as_slice(),
-    )
+}
+
+// The same, where this comes next after each event.
+fn stores_by(
+    alloc: Global,
+    trace: &Trace,
+    places: &[u64],
+    waited: &[u64],
+    upcoming: &Upcoming,
+) -> Result<Vec<u64>, OutOfMemory>
+    requires places { AreSafePlaces trace.now places.now }
+    requires waited { AreWaited trace.now waited.now }
+    requires upcoming { IsUpcoming trace.now upcoming.now }
+    ensures { IfOk result (λ numbers. AreThose (IsStoredAfterFlush trace.now) numbers.items) }
+{
+    let fences = upcoming.fences.as_slice();
+    let flushes = upcoming.flushes.as_slice();
+    if !is_any_fenced_first(places, waited, fences, flushes) {
+        return Ok(Vec::new(alloc));
+    }
+    let open = open_stores(alloc, trace, places, waited)?;
+    fenced_first(alloc, open.as_slice(), fences, flushes)
+}
+
+// Whether a store that a fence of its thread leaves unsafe, or that is never safe, has a next own fence no later than the next flush of its
+// line, by these lists.
+fn is_any_fenced_first(places: &[u64], waited: &[u64], fences: &[u64], flushes: &[u64]) -> bool
+    requires { length waited.now ≡ length places.now }
+    ensures { result ≡ false → (k : ℕ) → k < length places.now → left_unsafe (slice_index_or waited.now k 0) (slice_index_or places.now k 0) (length places.now) ≡ true → is_fenced_first_in fences.now flushes.now (suc k) ≡ false }
+{
+    for index in 0..places.len() {
+        let is_left = is_left_at(waited, places, index);
+        if is_left && is_fenced_first(fences, flushes, index as u64 + 1) {
+            return true;
+        }
+    }
+    false
 }
 
 // Those of these stores whose next own fence is no later than the next flush of their line, by these lists.

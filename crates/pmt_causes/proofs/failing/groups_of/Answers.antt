@@ -1,6 +1,5 @@
-use Rattle.std.proofs.Common.{arith, sym, subst}
+use Rattle.std.proofs.Common.{arith, subst}
 use Rattle.std.proofs.lemmas.Grind.{elements}
-use Rattle.pmt_explain.specs.Following.{AreNextFlushes}
 use Rattle.pmt_causes.specs.Groups.{AreGrouped}
 use Rattle.pmt_causes.proofs.ExactFailures.{failure-exact}
 use Rattle.pmt_causes.proofs.failing.groups_of.Goals as goal
@@ -8,11 +7,8 @@ use Rattle.pmt_causes.proofs.failing.groups_of.Goals as goal
 pub groups-requires : goal.groups-requires
 groups-requires c = record { exact = failure-exact }
 
-pub failures_of-requires-clause-flushes : goal.failures_of-requires-clause-flushes
-failures_of-requires-clause-flushes c = subst (AreNextFlushes c.args.trace.now) (sym c.as_slice.ensures.value) c.in_ok-flushes.ensures
-
 pub returns : goal.returns
-returns c = (c.in_ok-failures.failures.items, c.in_ok-failures.ensures, subst (λ xs. AreGrouped xs c.in_ok-groups.groups.items) c.as_slice-2.ensures.value c.in_ok-groups.ensures)
+returns c = (c.in_ok-failures.failures.items, c.in_ok-failures.ensures, subst (λ xs. AreGrouped xs c.in_ok-groups.groups.items) c.as_slice.ensures.value c.in_ok-groups.ensures)
 
 pub returns-in_err-failures : goal.returns-in_err-failures
 returns-in_err-failures c = grind (arith, elements)

@@ -15,9 +15,9 @@ returns c =
     let failed = c.in_ok-failed.ensures in
     record {
       failing = failed.failing ∙ ap failing_events c.verdicts-verdicts.ensures.value;
-      asked_failing = subst (λ (T : Recording). f.asked.items ≡ asked_numbers T labels o.choice kinds.Failure f.failing.items) c.requires failed.asked;
-      causes = subst (λ (T : Recording). AreFailureGroups T frames f.asked.items f.causes.items) c.requires failed.causes;
-      shown = subst (λ (T : Recording). AreShown T (take o.limit (first_members f.causes.items)) f.shown.items) c.requires failed.shown;
+      asked_failing = subst (λ (T : Recording). f.asked.items ≡ asked_numbers T labels o.choice kinds.Failure f.failing.items) c.requires.same failed.asked;
+      causes = subst (λ (T : Recording). AreFailureGroups T frames f.asked.items f.causes.items) c.requires.same failed.causes;
+      shown = subst (λ (T : Recording). AreShown T (take o.limit (first_members f.causes.items)) f.shown.items) c.requires.same failed.shown;
       overwritten = c.in_ok-overwrites.ensures.groups;
       ignored_pairs = c.in_ok-overwrites.ensures.ignored;
     }

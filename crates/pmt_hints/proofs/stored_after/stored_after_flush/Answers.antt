@@ -9,7 +9,7 @@ pub returns-then-not-is_any_left : goal.returns-then-not-is_any_left
 returns-then-not-is_any_left c =
     let T = c.args.safe.now.trace.now in
     let is : c.selection_of.result ≡ [] = c.selection_of.ensures ∙ c.new.ensures.items in
-    subst (AreThose (IsStoredAfterFlush T)) (sym is) (none-unsafe T c.places.result.now c.args.waited.now c.places.ensures c.requires (c.is_any_left.ensures c.if-not-is_any_left.true))
+    subst (AreThose (IsStoredAfterFlush T)) (sym is) (none-unsafe T c.places.result.now c.args.waited.now c.places.ensures c.requires.waited (c.is_any_left.ensures c.if-not-is_any_left.true))
 
 pub returns-then-not-has_store_while_open : goal.returns-then-not-has_store_while_open
 returns-then-not-has_store_while_open c =
