@@ -1,5 +1,5 @@
 -- What is told of a trace, what weighs most first, and the verdict.
-use Rattle.std.specs.Prelude.{ℕ, ◌-◌, ◌||◌, Bool, if◌then◌else◌, is_some, nat_le, nat_lt, Option, None, Some, ◌==◌, not, List, length, true, false, map, slice_get, ◌&&◌, nat_eq, option_map, slice_index_or, ◌≡◌, ◌++◌, filter}
+use Rattle.std.specs.Prelude.{ℕ, ◌-◌, ◌||◌, Bool, if◌then◌else◌, is_some, nat_le, nat_lt, Option, None, Some, ◌==◌, not, List, length, true, false, map, slice_get, ◌&&◌, nat_eq, option_map, slice_index_or, ◌≡◌, ◌++◌, [], filter}
 use Rattle.pmt_entries.specs.Prelude.{least_events, origin_in, same_place, Contrast, Hint, HintKind, PlaceRow, Group, Keyed, AreGrouped, first_in, Origin, nothing, AreContrasts, PlaceTable}
 use Rattle.pmt_laws.specs.Prelude.{list_any, Verdict as Judged, enumerate_from, IsNonDecreasingBy, IsPermutation, range_with_len, IsStableByKey, Recording, event, filter_map}
 use Rattle.std.specs.Set.{is_member}
@@ -195,9 +195,9 @@ is_open_kind k = false
 abbrev pub is_open_hint : Hint → Bool
 is_open_hint h = is_open_kind h.kind
 
--- The contrasts of these hints, if one is of such flushes: no other has any.
+-- The contrasts of these hints, if one is of such flushes: no other has any, and there are none then.
 abbrev pub AreContrastsIf : Recording → List Hint → List Contrast → Type 0
-AreContrastsIf T hints contrasts = list_any is_open_hint hints ≡ true → AreContrasts T hints contrasts
+AreContrastsIf T hints contrasts = (list_any is_open_hint hints ≡ true → AreContrasts T hints contrasts) × (list_any is_open_hint hints ≡ false → contrasts ≡ [])
 
 -- What is told of a trace with these verdicts on its assertions, n causes of failed ones, these rows and hints. Its events have these
 -- numbers of innermost frames; these stores are told as never persisted, and each event waits for so many fences.
