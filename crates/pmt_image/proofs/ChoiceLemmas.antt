@@ -1,10 +1,5 @@
 -- Choices of numbers for a few lines.
-use Rattle.std.proofs.Common.{◌≡◌, ℕ, zero, suc, ◌+◌, ◌-◌, ◌<◌, ◌≤◌, ◌⊎◌, ◌==◌, inl, inr, Bool, true, false, List, [], ◌∷◌, ◌++◌, length, map, refl, sym, ap, subst, ◌∙◌, arith, length-append, ltb-true, true≢false}
-use Rattle.std.specs.Prelude.{if◌then◌else◌, ◌||◌, nat_lt}
-use Rattle.pmt_laws.specs.Prelude.{AllByRecursion, flat_map, has_line}
-use Rattle.std.proofs.lemmas.Bool.{cases_eq, eq-eqb, ne_eqb, lt-ltb}
-use Rattle.pmt_image.specs.declared.crash.LineStores.{LineStores}
-use Rattle.pmt_image.specs.Crashes.{with_counts, IsOffBy, set_to, settings}
+use Rattle.pmt_image.proofs.Prelude.{◌≡◌, ℕ, zero, suc, ◌+◌, ◌-◌, ◌<◌, ◌≤◌, ◌⊎◌, ◌==◌, inl, inr, Bool, true, false, List, [], ◌∷◌, ◌++◌, length, map, refl, sym, ap, subst, ◌∙◌, arith, length-append, ltb-true, true≢false, if◌then◌else◌, ◌||◌, nat_lt, AllByRecursion, flat_map, has_line, cases_eq, eq-eqb, ne_eqb, lt-ltb, LineStores, with_counts, IsOffBy, set_to, settings}
 
 -- ---- Lists
 

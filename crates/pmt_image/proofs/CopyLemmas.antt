@@ -1,20 +1,12 @@
 -- Pieces of a pool, one after another.
-use Rattle.std.proofs.Common.{◌≡◌, ℕ, suc, ◌+◌, ◌-◌, ◌<◌, ◌≤◌, List, [], ◌∷◌, ◌++◌, length, take, Option, refl, sym, ap, ap₂, subst, ◌∙◌, arith, length-append, reverse, Result, Ok, Err}
-use Rattle.std.proofs.lemmas.List.{take_all, length-take}
+use Rattle.pmt_image.proofs.Prelude.{◌≡◌, ℕ, suc, ◌+◌, ◌-◌, ◌<◌, ◌≤◌, List, [], ◌∷◌, ◌++◌, length, take, Option, refl, sym, ap, ap₂, subst, ◌∙◌, arith, length-append, reverse, Result, Ok, Err, take_all, length-take, Consumes, Appends, Written, Image, Recording, history, Pool, StoreFault, written_by, FindsFault, over, AllInside, IsRefused, refusal_of, IsCopied, IsEndedBy, Copies, WritesImage, copy_result, image_after, copy_reads, copy_writes, image_reads, image_writes}
 use Rattle.std.proofs.KnownBytes.{Appends-trans, Consumes-trans, Keeps-refl}
-use Rattle.std.specs.Io.KnownBytes.{Consumes, Appends}
-use Rattle.pmt_laws.specs.Prelude.{Written, Image, Recording, history}
-use Rattle.pmt_image.specs.declared.pool.Pool.{Pool}
 use Rattle.pmt_image.specs.declared.crash.Crash.{Crash}
-use Rattle.pmt_image.specs.declared.persisting.StoreFault.{StoreFault}
 use Rattle.pmt_image.specs.declared.persisting.StoreFault.TheVariants as stores
 use Rattle.pmt_image.specs.declared.copying.Stop.{Stop}
 use Rattle.pmt_image.specs.declared.copying.Stop.TheVariants as stops
 use Rattle.pmt_image.specs.declared.copying.CopyFault.{CopyFault}
 use Rattle.pmt_image.specs.declared.copying.ImageFault.{ImageFault}
-use Rattle.pmt_image.specs.Crashes.{written_by}
-use Rattle.pmt_image.specs.Pools.{FindsFault, over, AllInside}
-use Rattle.pmt_image.specs.Copying.{IsRefused, refusal_of, IsCopied, IsEndedBy, Copies, WritesImage, copy_result, image_after, copy_reads, copy_writes, image_reads, image_writes}
 use Rattle.pmt_image.proofs.OverLemmas.{over-length, over-append, over-take, over-same}
 
 take-past : (xs ys : List ℕ) (k : ℕ) → take (length xs + k) (xs ++ ys) ≡ xs ++ take k ys

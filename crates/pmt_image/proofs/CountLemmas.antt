@@ -1,14 +1,6 @@
 -- Numbers of stores, by line.
-use Rattle.std.proofs.Common.{◌≡◌, ℕ, ◌≤◌, ◌⊎◌, ◌==◌, inl, inr, Bool, true, false, List, [], ◌∷◌, ◌++◌, map, Option, Some, None, refl, sym, ap, subst, ◌∙◌, arith, true≢false}
-use Rattle.std.specs.Prelude.{if◌then◌else◌, ◌||◌}
-use Rattle.std.proofs.lemmas.Bool.{cases_eq, eq-eqb, ne_eqb}
-use Rattle.pmt_explain.specs.Prelude.{Act, Stores, Flushes, Clflushes, Fences, Asserts, count, Vectors, Recording, history, count_at, has_line, with_line, lines_of, front_at, InBox, AllByRecursion, persisted_at}
-use Rattle.pmt_laws.proofs.BoxLemmas.{box-ends}
-use Rattle.pmt_laws.proofs.Histories.{front-le-count}
-use Rattle.pmt_explain.specs.declared.lines.LineCount.{LineCount}
-use Rattle.pmt_explain.specs.Crashes.{line_count}
-use Rattle.pmt_image.specs.declared.crash.LineStores.{LineStores}
-use Rattle.pmt_image.specs.Crashes.{with_counts, persisted_entry, stored_entry, IsBetween}
+use Rattle.pmt_image.proofs.Prelude.{◌≡◌, ℕ, ◌≤◌, ◌⊎◌, ◌==◌, inl, inr, Bool, true, false, List, [], ◌∷◌, ◌++◌, map, Option, Some, None, refl, sym, ap, subst, ◌∙◌, arith, true≢false, if◌then◌else◌, ◌||◌, cases_eq, eq-eqb, ne_eqb, Act, Stores, Flushes, Clflushes, count, Vectors, Recording, history, count_at, has_line, with_line, front_at, InBox, AllByRecursion, box-ends, front-le-count, LineCount, line_count, LineStores, with_counts, persisted_entry, stored_entry, IsBetween}
+use Rattle.pmt_explain.specs.Prelude.{lines_of, persisted_at}
 
 -- the same counts before, the same after
 pub counts-same : (xs : List LineStores) (v w : ℕ → ℕ) → ((l : ℕ) → v l ≡ w l) → (l : ℕ) → with_counts xs v l ≡ with_counts xs w l
@@ -79,8 +71,7 @@ no_line-count l (Stores k w ∷ h) none = elim (cases_eq k l) [
 ]
 no_line-count l (Flushes t k ∷ h) none = no_line-count l h (kept l k (lines_of h) none)
 no_line-count l (Clflushes k ∷ h) none = no_line-count l h (kept l k (lines_of h) none)
-no_line-count l (Fences t ∷ h) none = no_line-count l h none
-no_line-count l (Asserts ∷ h) none = no_line-count l h none
+no_line-count l (a ∷ h) none = no_line-count l h none
 
 -- ---- The counts of a crash
 

@@ -1,12 +1,5 @@
 -- Stores laid over bytes.
-use Rattle.std.proofs.Common.{◌≡◌, ℕ, ◌+◌, ◌-◌, ◌<◌, ◌≤◌, ◌⊎◌, inl, inr, Bool, true, false, List, [], ◌∷◌, length, get_or, take, set, reverse, max, min, Option, refl, sym, ap, ◌∙◌, arith, length-set, get_or-set_same, get_or-set_other, leb-true, ltb-true}
-use Rattle.std.specs.Prelude.{if◌then◌else◌, nat_le, nat_lt, slice_get, unwrap_or}
-use Rattle.std.proofs.lemmas.Bool.{cases_lt, cases_eq, le-leb, lt-ltb, and_parts, and_from}
-use Rattle.std.proofs.lemmas.List.{take_more, reverse-append}
-use Rattle.std.proofs.lemmas.Option.{slice_get-get_or}
-use Rattle.pmt_laws.specs.Prelude.{Written, Image, writes, write}
-use Rattle.pmt_image.specs.Crashes.{written_by}
-use Rattle.pmt_image.specs.Pools.{over}
+use Rattle.pmt_image.proofs.Prelude.{◌≡◌, ℕ, ◌+◌, ◌-◌, ◌<◌, ◌≤◌, ◌⊎◌, inl, inr, Bool, true, false, List, [], ◌∷◌, length, get_or, take, set, reverse, max, min, Option, refl, sym, ap, ◌∙◌, arith, length-set, get_or-set_same, get_or-set_other, leb-true, ltb-true, if◌then◌else◌, nat_le, nat_lt, slice_get, unwrap_or, cases_lt, cases_eq, le-leb, lt-ltb, and_parts, and_from, take_more, reverse-append, slice_get-get_or, Written, Image, writes, write, written_by, over}
 use Rattle.pmt_image.proofs.OverLemmas.{over-from_each}
 
 -- ---- One store, byte by byte

@@ -1,3 +1,4 @@
+pub mod Prelude
 pub mod OverLemmas
 pub mod LayLemmas
 pub mod CopyLemmas

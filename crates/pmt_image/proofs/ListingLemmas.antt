@@ -1,11 +1,5 @@
 -- The places where what crashes leave turns.
-use Rattle.std.proofs.Common.{◌≡◌, ℕ, zero, suc, ◌+◌, ◌-◌, ◌≤◌, ◌⊎◌, ◌==◌, inl, inr, Bool, true, false, List, ◌∷◌, length, refl, sym, ap, subst, ◌∙◌, arith, true≢false}
-use Rattle.std.specs.Prelude.{◌&&◌, ◌||◌, not, nat_le}
-use Rattle.std.proofs.lemmas.Bool.{le-leb}
-use Rattle.pmt_laws.specs.Prelude.{Act, Stores, Flushes, Clflushes, Fences, Asserts, Vectors, count, Recording, IsAct, VectorsAt, count_at, history, front, front_at, InBox}
-use Rattle.pmt_laws.proofs.Histories.{event-none, event-some, history-act, count-grows}
-use Rattle.pmt_laws.proofs.BoxLemmas.{same_fronts-vectors, vectors_are_a_box}
-use Rattle.pmt_image.specs.Listing.{is_kind, is_kind_of, stores_act, raises_act, turns, AreAlike, HaveAllCrashes}
+use Rattle.pmt_image.proofs.Prelude.{◌≡◌, ℕ, zero, suc, ◌+◌, ◌-◌, ◌≤◌, ◌⊎◌, ◌==◌, inl, inr, Bool, true, false, List, ◌∷◌, length, refl, sym, ap, subst, ◌∙◌, arith, true≢false, ◌&&◌, ◌||◌, not, nat_le, le-leb, Act, Stores, Clflushes, Fences, Vectors, count, Recording, IsAct, VectorsAt, count_at, history, front, front_at, InBox, event-none, event-some, history-act, count-grows, same_fronts-vectors, vectors_are_a_box, is_kind, is_kind_of, stores_act, raises_act, turns, AreAlike, HaveAllCrashes}
 
 -- an event is of the kind of its act
 kind-of : (kind : Act → Bool) (T : Recording) (n : ℕ) (a : Act) → IsAct T n a → is_kind kind T n ≡ kind a
@@ -66,8 +60,7 @@ before-rest T (suc n) within none =
     go (Stores l w) is back = (suc n, at-rest T (suc n) within (ap (λ (b : Bool). (suc n == 0) || b) (kind-of stores_act T (suc n) (Stores l w) is) ∙ or-last (suc n == 0)) none, alike-self T (suc n))
     go (Clflushes l) is back = (suc n, at-raise T (suc n) within (kind-of raises_act T (suc n) (Clflushes l) is), alike-self T (suc n))
     go (Fences t) is back = (suc n, at-raise T (suc n) within (kind-of raises_act T (suc n) (Fences t) is), alike-self T (suc n))
-    go (Flushes t l) is back = onward (Flushes t l) is refl (alike-next T n (Flushes t l) is (λ k. refl) (λ k. refl)) back
-    go Asserts is back = onward Asserts is refl (alike-next T n Asserts is (λ k. refl) (λ k. refl)) back
+    go a is back = onward a is refl (alike-next T n a is (λ k. refl) (λ k. refl)) back
 
 after-rest : (T : Recording) (n : ℕ) → suc n ≤ length T.events → is_kind stores_act T (suc n) ≡ false → (m : ℕ) × (turns T m ≡ true) × AreAlike T m (suc n)
 after-rest T n within none =
@@ -81,8 +74,7 @@ after-rest T n within none =
     go (Stores l w) is = absurd (true≢false (sym (kind-of stores_act T (suc n) (Stores l w) is) ∙ none))
     go (Clflushes l) is = (suc n, at-raise T (suc n) within (kind-of raises_act T (suc n) (Clflushes l) is), alike-self T (suc n))
     go (Fences t) is = (suc n, at-raise T (suc n) within (kind-of raises_act T (suc n) (Fences t) is), alike-self T (suc n))
-    go (Flushes t l) is = onward (alike-next T n (Flushes t l) is (λ k. refl) (λ k. refl))
-    go Asserts is = onward (alike-next T n Asserts is (λ k. refl) (λ k. refl))
+    go a is = onward (alike-next T n a is (λ k. refl) (λ k. refl))
 
 -- a crash before a store may leave what one before it may
 later-may : (T : Recording) (n : ℕ) (a : Act) (v : ℕ → ℕ) → IsAct T (suc n) a → stores_act a ≡ true → VectorsAt T n v → VectorsAt T (suc n) v
@@ -93,10 +85,7 @@ later-may T n (Stores k w) v is kind may =
     box l =
         let old = (vectors_are_a_box (history T n) v).0 may l in
         (old.0, let grows = count-grows l (Stores k w) (history T n) in let high = old.1 in omega arith)
-later-may T n (Flushes t l) v is kind may = absurd (true≢false (sym kind))
-later-may T n (Clflushes l) v is kind may = absurd (true≢false (sym kind))
-later-may T n (Fences t) v is kind may = absurd (true≢false (sym kind))
-later-may T n Asserts v is kind may = absurd (true≢false (sym kind))
+later-may T n a v is kind may = absurd (true≢false (sym kind))
 
 -- so no crash is missed
 at-turn : (T : Recording) (n : ℕ) (v : ℕ → ℕ) → n ≤ length T.events → is_kind stores_act T (suc n) ≡ false → VectorsAt T n v → (m : ℕ) × (turns T m ≡ true) × VectorsAt T m v

@@ -1,14 +1,5 @@
 -- The crashes near what is safe, and near all that was stored.
-use Rattle.std.proofs.Common.{◌≡◌, ℕ, suc, ◌+◌, ◌-◌, ◌<◌, ◌≤◌, ◌⊎◌, ◌==◌, inl, inr, Bool, true, false, List, [], ◌∷◌, ◌++◌, length, map, get_or, take, drop, refl, sym, ap, subst, ◌∙◌, append_assoc, arith, ltb-true, true≢false}
-use Rattle.std.specs.Prelude.{if◌then◌else◌, ◌||◌, nat_lt}
-use Rattle.std.proofs.lemmas.Bool.{cases_eq, eq-eqb, ne_eqb, eqb-true, ltb-false}
-use Rattle.std.proofs.lemmas.List.{length-map, drop_more, take_more, flat_map_more, map-append, map_push}
-use Rattle.pmt_laws.specs.Prelude.{Recording, history, count_at, has_line, with_line, front_at, InBox, Any, AllByRecursion, filter, flat_map}
-use Rattle.pmt_laws.proofs.BoxLemmas.{vectors_are_a_box}
-use Rattle.pmt_laws.proofs.Histories.{front-le-count}
-use Rattle.pmt_explain.specs.declared.lines.LineCount.{LineCount}
-use Rattle.pmt_image.specs.declared.crash.LineStores.{LineStores}
-use Rattle.pmt_image.specs.Crashes.{with_counts, IsOffBy, IsNear, AreSame, AllDiffer, AreNear, left_by, set_to, low_of, grown, chosen, fronts_off}
+use Rattle.pmt_image.proofs.Prelude.{◌≡◌, ℕ, suc, ◌+◌, ◌-◌, ◌<◌, ◌≤◌, ◌⊎◌, ◌==◌, inl, inr, Bool, true, false, List, [], ◌∷◌, ◌++◌, length, map, get_or, take, drop, refl, sym, ap, subst, ◌∙◌, append_assoc, arith, ltb-true, true≢false, if◌then◌else◌, ◌||◌, nat_lt, cases_eq, eq-eqb, ne_eqb, eqb-true, ltb-false, length-map, drop_more, take_more, flat_map_more, map-append, map_push, Recording, history, count_at, has_line, with_line, front_at, InBox, Any, AllByRecursion, filter, flat_map, vectors_are_a_box, front-le-count, LineCount, LineStores, with_counts, IsOffBy, IsNear, AreSame, AllDiffer, AreNear, left_by, set_to, low_of, grown, chosen, fronts_off}
 use Rattle.pmt_image.proofs.ChoiceLemmas.{all-append, Has, has-left, has-right, without, without-shorter, without-others, lines_in, or-first, or-second, IsChoice, AreApart, AllApart, Leaves, AreChoices, IsSpan, choices-none, choices-more, other-line}
 
 -- ---- The lines with a store that a crash can lose

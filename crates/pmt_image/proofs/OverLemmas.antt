@@ -1,8 +1,5 @@
 -- An image over bytes.
-use Rattle.std.proofs.Common.{◌≡◌, ℕ, zero, suc, ◌+◌, ◌<◌, List, [], ◌∷◌, ◌++◌, length, get_or, take, refl, sym, ap, ap₂, ◌∙◌, arith}
-use Rattle.std.specs.Prelude.{unwrap_or}
-use Rattle.pmt_model.specs.Machine.{Image}
-use Rattle.pmt_image.specs.Pools.{over}
+use Rattle.pmt_image.proofs.Prelude.{◌≡◌, ℕ, zero, suc, ◌+◌, ◌<◌, List, [], ◌∷◌, ◌++◌, length, get_or, take, refl, sym, ap, ap₂, ◌∙◌, arith, unwrap_or, Image, over}
 
 pub over-length : (image : Image) (at : ℕ) (bs : List ℕ) → length (over image at bs) ≡ length bs
 over-length image at [] = refl

@@ -1,15 +1,6 @@
 -- The line of a crash is read back.
-use Rattle.std.proofs.Common.{◌≡◌, ℕ, ◌*◌, ◌/◌, ◌^◌, ◌<◌, ◌≤◌, inl, inr, Bool, true, false, List, [], ◌∷◌, ◌++◌, codes, append-nil, append_assoc, mul-div_cancel, Some, refl, sym, ap, ◌∙◌, arith}
-use Rattle.std.specs.List.{flat_map, join_with_byte, AllByRecursion}
-use Rattle.std.proofs.lemmas.List.Splits.{join_with_byte-slice_split}
-use Rattle.pmt_text.specs.Spelling.{address, ended, numeral}
-use Rattle.pmt_text.specs.Judging.{address_in, number_in, fields_of, capped}
-use Rattle.pmt_text.proofs.NumeralLemmas.{AreDigits, AreDigits-numeral, number_in-numeral, no_digit-space}
-use Rattle.pmt_text.proofs.FieldLemmas.{address_in-address}
-use Rattle.pmt_text.proofs.LineLemmas.{parts, IsFree, parts-append, parts-join}
+use Rattle.pmt_image.proofs.Prelude.{◌≡◌, ℕ, ◌*◌, ◌/◌, ◌^◌, ◌<◌, ◌≤◌, inl, inr, Bool, true, false, List, [], ◌∷◌, ◌++◌, codes, append-nil, append_assoc, mul-div_cancel, Some, refl, sym, ap, ◌∙◌, arith, flat_map, join_with_byte, AllByRecursion, join_with_byte-slice_split, address, ended, numeral, address_in, number_in, fields_of, capped, AreDigits, AreDigits-numeral, number_in-numeral, no_digit-space, address_in-address, parts, IsFree, parts-append, parts-join, LineStores, all_words, crash_words, line_words, Asks, line_word, all_arguments, line_arguments, crash_arguments, CrashesAreReadBack}
 use Rattle.pmt_text.proofs.SpelledLemmas.{free_from}
-use Rattle.pmt_image.specs.declared.crash.LineStores.{LineStores}
-use Rattle.pmt_image.specs.Listing.{all_words, crash_words, line_words, Asks, line_word, all_arguments, line_arguments, crash_arguments, CrashesAreReadBack}
 use Rattle.pmt_image.proofs.WordLemmas.{address-free}
 
 -- ---- Spaces

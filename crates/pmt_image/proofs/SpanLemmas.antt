@@ -1,18 +1,7 @@
 -- The stores that a crash can lose, and their lines.
-use Rattle.std.proofs.Common.{◌≡◌, ℕ, zero, suc, ◌+◌, ◌-◌, ◌<◌, ◌≤◌, ◌⊎◌, ◌==◌, inl, inr, Bool, true, false, List, [], ◌∷◌, ◌++◌, length, map, get_or, take, reverse, Some, refl, sym, ap, ap₂, subst, ◌∙◌, arith, true≢false}
-use Rattle.std.specs.Prelude.{if◌then◌else◌, ◌||◌, nat_lt, slice_get}
-use Rattle.std.proofs.lemmas.Bool.{cases_eq, cases_lt, eq-eqb, ne_eqb, lt-ltb, le-ltb, ltb-false}
-use Rattle.std.proofs.lemmas.Option.{slice_get-get_or, slice_get_within}
-use Rattle.std.proofs.lemmas.List.{get_or_append_left, get_or_push, length-append, take_more, reverse-append}
-use Rattle.std.proofs.lemmas.List.Elements.{filter-append}
-use Rattle.pmt_laws.specs.Prelude.{Act, Stores, Flushes, Clflushes, Fences, Asserts, count, Recording, IsAct, history, count_at, has_line, with_line, front_at, AllByRecursion, filter}
-use Rattle.pmt_laws.proofs.Histories.{event-some, front-le-count, history-act}
+use Rattle.pmt_image.proofs.Prelude.{◌≡◌, ℕ, zero, suc, ◌+◌, ◌-◌, ◌<◌, ◌≤◌, ◌⊎◌, ◌==◌, inl, inr, Bool, true, false, List, [], ◌∷◌, ◌++◌, length, map, get_or, take, reverse, Some, refl, sym, ap, ap₂, subst, ◌∙◌, arith, true≢false, if◌then◌else◌, ◌||◌, nat_lt, slice_get, cases_eq, cases_lt, eq-eqb, ne_eqb, lt-ltb, le-ltb, ltb-false, slice_get-get_or, slice_get_within, get_or_append_left, get_or_push, length-append, take_more, reverse-append, filter-append, Act, Stores, count, Recording, IsAct, history, count_at, has_line, with_line, front_at, AllByRecursion, filter, event-some, front-le-count, history-act, LineCount, TellsSafe, StoreSpan, AreSpans, IsSpan, line_by, lines_of_spans, span_by, stored_by, with_span, exposed_by}
 use Rattle.pmt_reasons.proofs.CauseLemmas.{rank-store}
-use Rattle.pmt_explain.specs.declared.lines.LineCount.{LineCount}
-use Rattle.pmt_explain.specs.Following.{TellsSafe}
 use Rattle.pmt_explain.proofs.SavingLemmas.{pending-before}
-use Rattle.pmt_image.specs.declared.spans.StoreSpan.{StoreSpan}
-use Rattle.pmt_image.specs.Spans.{AreSpans, IsSpan, line_by, lines_of_spans, span_by, stored_by, with_span, exposed_by}
 use Rattle.pmt_image.proofs.CountLemmas.{added, has_line-append}
 use Rattle.pmt_image.proofs.NearLemmas.{AreNew, AreNewLines, AreOpen, IsBound, done_after, done-kept, new-with_line, or-true}
 
@@ -25,18 +14,12 @@ stored-next T n (Stores l w) v is before k = go (l == k) ∙ sym (ap (count k) (
     go : (b : Bool) → (if b then suc (v k) else v k) ≡ (if b then suc (count_at T k n) else count_at T k n)
     go true = ap (λ (m : ℕ). suc m) (before k)
     go false = before k
-stored-next T n (Flushes t l) v is before k = before k ∙ sym (ap (count k) (history-act T n (Flushes t l) is))
-stored-next T n (Clflushes l) v is before k = before k ∙ sym (ap (count k) (history-act T n (Clflushes l) is))
-stored-next T n (Fences t) v is before k = before k ∙ sym (ap (count k) (history-act T n (Fences t) is))
-stored-next T n Asserts v is before k = before k ∙ sym (ap (count k) (history-act T n Asserts is))
+stored-next T n a v is before k = before k ∙ sym (ap (count k) (history-act T n a is))
 
 -- the span of the next act
 pub span-next : (T : Recording) (n : ℕ) (a : Act) (v : ℕ → ℕ) (s : ℕ) → IsAct T (suc n) a → ((l : ℕ) → v l ≡ count_at T l n) → TellsSafe T (suc n) s → IsSpan T (suc n) a (span_by a v s)
 span-next T n (Stores l w) v s is before tells = (refl, ap (λ (m : ℕ). suc m) (before l) ∙ sym (rank-store T l n w is), tells l w is)
-span-next T n (Flushes t l) v s is before tells = refl
-span-next T n (Clflushes l) v s is before tells = refl
-span-next T n (Fences t) v s is before tells = refl
-span-next T n Asserts v s is before tells = refl
+span-next T n a v s is before tells = refl
 
 -- ---- Lines by their stores
 
@@ -170,10 +153,7 @@ grouped-next T n k (Stores l w) x xs is span within g = go (cases_lt (front_at T
           | inr upto ↦ upto
         ] in
         rw (le-ltb n x.safe late) (grouped-kept F C D xs (λ j. kept j above (cases_eq l j)) g)
-grouped-next T n k (Flushes t l) x xs is span within g = rw (le-ltb n x.safe (omega (arith, span))) (grouped-kept _ _ _ xs (λ j. inl (ap (count j) (history-act T k (Flushes t l) is))) g)
-grouped-next T n k (Clflushes l) x xs is span within g = rw (le-ltb n x.safe (omega (arith, span))) (grouped-kept _ _ _ xs (λ j. inl (ap (count j) (history-act T k (Clflushes l) is))) g)
-grouped-next T n k (Fences t) x xs is span within g = rw (le-ltb n x.safe (omega (arith, span))) (grouped-kept _ _ _ xs (λ j. inl (ap (count j) (history-act T k (Fences t) is))) g)
-grouped-next T n k Asserts x xs is span within g = rw (le-ltb n x.safe (omega (arith, span))) (grouped-kept _ _ _ xs (λ j. inl (ap (count j) (history-act T k Asserts is))) g)
+grouped-next T n k a x xs is span within g = rw (le-ltb n x.safe (omega (arith, span))) (grouped-kept _ _ _ xs (λ j. inl (ap (count j) (history-act T k a is))) g)
 
 -- the stores of the first k events that a crash at place n can lose, the newest first
 abbrev pub exposed_to : List StoreSpan → ℕ → ℕ → List StoreSpan

@@ -1,13 +1,6 @@
 -- The persisted stores, event by event.
-use Rattle.std.proofs.Common.{◌≡◌, ℕ, zero, suc, ◌<◌, ◌≤◌, ◌==◌, inl, inr, Bool, true, false, List, [], ◌∷◌, Some, sym, ap, subst, ◌∙◌, arith}
-use Rattle.std.specs.Prelude.{if◌then◌else◌, slice_get}
-use Rattle.pmt_laws.specs.Prelude.{Event, Layout, Written, line_of, Act, Stores, Flushes, Clflushes, Fences, Asserts, count, Recording, IsAct, act, act_of, history, count_at}
-use Rattle.pmt_laws.proofs.Histories.{history-act, history-step}
-use Rattle.pmt_image.specs.declared.pool.Pool.{Pool}
-use Rattle.pmt_image.specs.declared.persisting.StoreFault.{StoreFault}
+use Rattle.pmt_image.proofs.Prelude.{◌≡◌, ℕ, zero, suc, ◌<◌, ◌≤◌, ◌==◌, inl, inr, Bool, true, false, List, ◌∷◌, Some, sym, ap, subst, ◌∙◌, arith, if◌then◌else◌, slice_get, Event, Layout, Written, line_of, Act, Stores, count, Recording, IsAct, act, act_of, history, count_at, history-act, history-step, Pool, StoreFault, Table, AreFound, IsInside, AllInside, IsOpFault, FindsFault}
 use Rattle.pmt_image.specs.declared.persisting.StoreFault.TheVariants.{Outside, OutOfMemory}
-use Rattle.pmt_image.specs.Crashes.{Table, AreFound}
-use Rattle.pmt_image.specs.Pools.{IsInside, AllInside, IsOpFault, FindsFault}
 
 -- no line has more stores than there are events
 count-step : (l : ℕ) (a : Act) (h : List Act) → count l (a ∷ h) ≤ suc (count l h)
@@ -16,10 +9,7 @@ count-step l (Stores k w) h = go (k == l)
     go : (b : Bool) → (if b then suc (count l h) else count l h) ≤ suc (count l h)
     go true = omega arith
     go false = omega arith
-count-step l (Flushes t k) h = omega arith
-count-step l (Clflushes k) h = omega arith
-count-step l (Fences t) h = omega arith
-count-step l Asserts h = omega arith
+count-step l a h = omega arith
 
 pub count-few : (T : Recording) (l n : ℕ) → count_at T l n ≤ n
 count-few T l zero = omega arith

@@ -1,16 +1,8 @@
 -- From place to place.
-use Rattle.std.proofs.Common.{◌≡◌, ℕ, ◌+◌, ◌-◌, ◌<◌, ◌≤◌, ◌⊎◌, inl, inr, Bool, true, false, List, [], ◌∷◌, ◌++◌, length, map, min, take, drop, reverse, refl, sym, ap, subst, ◌∙◌, arith}
-use Rattle.std.specs.Prelude.{if◌then◌else◌, nat_lt}
-use Rattle.std.proofs.lemmas.Bool.{cases_lt, lt-ltb, le-ltb}
-use Rattle.std.proofs.lemmas.List.{take_all}
-use Rattle.std.proofs.lemmas.List.Elements.{filter-append}
+use Rattle.pmt_image.proofs.Prelude.{◌≡◌, ℕ, ◌+◌, ◌-◌, ◌<◌, ◌≤◌, ◌⊎◌, inl, inr, Bool, true, false, List, [], ◌∷◌, ◌++◌, length, map, min, take, drop, refl, sym, ap, subst, ◌∙◌, arith, if◌then◌else◌, nat_lt, cases_lt, lt-ltb, le-ltb, filter-append, Act, Vectors, count, Recording, count_at, history, front, front_at, AllByRecursion, filter, LineStores, StoreSpan, with_counts, IsOffBy, IsNear, AreNear, left_by_all, exposed_by}
 use Rattle.std.proofs.Math.Seq.{take-add}
-use Rattle.pmt_laws.specs.Prelude.{Act, Vectors, count, Recording, act, count_at, history, front, front_at, AllByRecursion, filter}
-use Rattle.pmt_image.specs.declared.crash.LineStores.{LineStores}
 use Rattle.pmt_image.specs.declared.near.NearCrashes.{NearCrashes}
-use Rattle.pmt_image.specs.declared.spans.StoreSpan.{StoreSpan}
-use Rattle.pmt_image.specs.Crashes.{with_counts, IsOffBy, IsNear, AreNear, left_by_all}
-use Rattle.pmt_image.specs.Spans.{exposed_by}
+use Rattle.pmt_explain.proofs.CrashLemmas.{history-min}
 
 -- what passes at a later place passed before
 filter-later : (n m : ℕ) (xs : List StoreSpan) → n ≤ m → filter (λ x. nat_lt m x.safe) (filter (λ x. nat_lt n x.safe) xs) ≡ filter (λ x. nat_lt m x.safe) xs
@@ -38,16 +30,6 @@ exposed-later spans old new n m later before is =
 
 -- ---- A place past the end
 
-past-end : (T : Recording) (n : ℕ) → history T (min n (length T.events)) ≡ history T n
-past-end T n = go (cases_lt n (length T.events))
-  where
-    go : (n < length T.events) ⊎ (length T.events ≤ n) → history T (min n (length T.events)) ≡ history T n
-    go (inl before) = let same : min n (length T.events) ≡ n = omega (arith, before) in ap (λ (k : ℕ). history T k) same
-    go (inr past) =
-        let same : min n (length T.events) ≡ length T.events = omega (arith, past) in
-        ap (λ (k : ℕ). history T k) same
-        ∙ ap (λ es. reverse (map (act T.format) es)) (take_all (length T.events) T.events (omega arith) ∙ sym (take_all n T.events past))
-
 off-same : (k : ℕ) (v base other : ℕ → ℕ) → ((l : ℕ) → base l ≡ other l) → IsOffBy k base v → IsOffBy k other v
 off-same k v base other same x = record { lines = x.lines; few = x.few; others = λ l none. x.others l none ∙ same l }
 
@@ -71,7 +53,7 @@ left_after_all h crashes = left_after h false (map (λ lines. lines.items) crash
 
 pub near-past : (T : Recording) (n k : ℕ) (crashes : NearCrashes) → AreNear T (min n (length T.events)) k (left_by_all T (min n (length T.events)) crashes) → AreNear T n k (left_by_all T n crashes)
 near-past T n k crashes x =
-    let same = past-end T n in
+    let same = history-min T n in
     subst (λ (list : List (ℕ → ℕ)). AreNear T n k list) (ap (λ (h : List Act). left_after_all h crashes) same) (record {
       each = each-same T _ n k _ same x.each;
       whole = λ v near. x.whole v (near-same T n _ k v (sym same) near);

@@ -1,15 +1,6 @@
 -- The word of a line.
-use Rattle.std.proofs.Common.{◌≡◌, ℕ, ◌^◌, ◌<◌, ◌==◌, inl, inr, Bool, true, false, if◌then◌else◌, nat_lt, List, [], ◌∷◌, ◌++◌, length, length-append, get_or, Option, None, Some, Result, Ok, Err, option_map, refl, sym, ap, ◌∙◌, arith, ne_eqb, lt-ltb, ltb-true}
-use Rattle.std.specs.List.{position_or_len, before_first, after_first, join_with_byte}
-use Rattle.std.proofs.lemmas.Bool.{true≢false, eqb-true}
+use Rattle.pmt_image.proofs.Prelude.{◌≡◌, ℕ, ◌^◌, ◌<◌, ◌==◌, inl, inr, Bool, true, false, if◌then◌else◌, nat_lt, List, [], ◌∷◌, ◌++◌, length, length-append, get_or, Option, None, Some, Result, Ok, Err, option_map, refl, sym, ap, ◌∙◌, arith, ne_eqb, lt-ltb, ltb-true, position_or_len, before_first, after_first, join_with_byte, true≢false, eqb-true, slice_split_first, join_with_byte-slice_split, address, numeral, address_in, number_in, capped, digit_of, AreDigits, AreDigits-numeral, number_in-numeral, numeral-number_in, address_in-address, address-address_in, parts, IsFree, parts-append, Asks}
 use Rattle.std.proofs.lemmas.List.Sums.{fails_before_first, passes_at_first, split_at_first}
-use Rattle.std.proofs.lemmas.List.Splits.{slice_split_first, join_with_byte-slice_split}
-use Rattle.pmt_text.specs.Spelling.{address, numeral}
-use Rattle.pmt_text.specs.Judging.{address_in, number_in, capped, digit_of}
-use Rattle.pmt_text.proofs.NumeralLemmas.{AreDigits, AreDigits-numeral, number_in-numeral, numeral-number_in}
-use Rattle.pmt_text.proofs.FieldLemmas.{address_in-address, address-address_in}
-use Rattle.pmt_text.proofs.LineLemmas.{parts, IsFree, parts-append}
-use Rattle.pmt_image.specs.Listing.{Asks}
 
 -- ---- The colon
 

@@ -1,9 +1,4 @@
-use Rattle.std.proofs.Common.{◌≡◌, ◌≤◌, ℕ, List, length, take, reverse, sym, subst, arith}
-use Rattle.std.proofs.lemmas.Grind.{elements}
-use Rattle.std.proofs.lemmas.List.{take-take, length-take}
-use Rattle.std.specs.Io.KnownBytes.{Appends}
-use Rattle.pmt_text.specs.Counting.{inner_device}
-use Rattle.pmt_image.specs.Crashes.{written_by}
+use Rattle.pmt_image.proofs.Prelude.{◌≡◌, ◌≤◌, ℕ, List, length, take, reverse, sym, subst, arith, elements, take-take, length-take, Appends, inner_device, written_by}
 use Rattle.pmt_image.proofs.CopyLemmas.{copied-piece}
 use Rattle.pmt_image.proofs.copying.copy_piece.Goals as goal
 

@@ -1,6 +1,4 @@
-use Rattle.std.proofs.Common.{◌++◌, reverse, arith, length-append}
-use Rattle.std.proofs.lemmas.Grind.{elements}
-use Rattle.pmt_image.specs.Crashes.{written_by}
+use Rattle.pmt_image.proofs.Prelude.{◌++◌, reverse, arith, length-append, elements, written_by}
 use Rattle.pmt_image.proofs.CopyLemmas.{copied-more, ended-more}
 use Rattle.pmt_image.proofs.copying.copy_pool.Goals as goal
 

@@ -1,7 +1,4 @@
-use Rattle.std.proofs.Common.{◌≡◌, ◌-◌, ◌<◌, ◌≤◌, ℕ, List, length, reverse}
-use Rattle.pmt_text.specs.Counting.{inner_device, failure_count}
-use Rattle.pmt_image.specs.Copying.{IsCopied}
-use Rattle.pmt_image.specs.Crashes.{written_by}
+use Rattle.pmt_image.proofs.Prelude.{◌≡◌, ◌-◌, ◌<◌, ◌≤◌, ℕ, List, length, reverse, inner_device, failure_count, IsCopied, written_by}
 use Rattle.pmt_image.proofs.copying.copy_pool.Given as goal
 
 abbrev pub invariant-loop-done : goal.invariant-loop-done

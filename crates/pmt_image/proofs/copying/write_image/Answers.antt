@@ -1,5 +1,4 @@
-use Rattle.std.proofs.Common.{arith}
-use Rattle.std.proofs.lemmas.Grind.{elements}
+use Rattle.pmt_image.proofs.Prelude.{arith, elements}
 use Rattle.pmt_image.proofs.CopyLemmas.{image-written, image-refused, refused-counts, image-reads, image-writes}
 use Rattle.pmt_image.proofs.copying.write_image.Goals as goal
 

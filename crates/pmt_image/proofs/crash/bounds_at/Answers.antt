@@ -1,6 +1,4 @@
-use Rattle.std.proofs.Common.{ap, ◌∙◌, List, map}
-use Rattle.pmt_explain.specs.declared.lines.LineCount.{LineCount}
-use Rattle.pmt_image.specs.Crashes.{with_counts, persisted_entry, stored_entry}
+use Rattle.pmt_image.proofs.Prelude.{ap, ◌∙◌, List, map, LineCount, with_counts, persisted_entry, stored_entry}
 use Rattle.pmt_image.proofs.CountLemmas.{least-told, greatest-told}
 use Rattle.pmt_image.proofs.crash.bounds_at.Goals as goal
 

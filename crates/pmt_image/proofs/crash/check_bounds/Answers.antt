@@ -1,8 +1,4 @@
-use Rattle.std.proofs.Common.{◌<◌, ◌≤◌, List, length, get_or, sym, subst, rules, arith}
-use Rattle.std.specs.List.{AllByRecursion}
-use Rattle.std.proofs.lemmas.List.{drop_more}
-use Rattle.pmt_image.specs.declared.crash.LineStores.{LineStores}
-use Rattle.pmt_image.specs.Crashes.{count_in, IsBetween}
+use Rattle.pmt_image.proofs.Prelude.{◌<◌, ◌≤◌, List, length, get_or, sym, subst, rules, arith, AllByRecursion, drop_more, LineStores, count_in, IsBetween}
 use Rattle.pmt_image.proofs.crash.check_bounds.Goals as goal
 
 -- what stands past the end of a list

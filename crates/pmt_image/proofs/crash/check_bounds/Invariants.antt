@@ -1,6 +1,4 @@
-use Rattle.std.proofs.Common.{drop}
-use Rattle.std.specs.List.{AllByRecursion}
-use Rattle.pmt_image.specs.Crashes.{count_in, IsBetween}
+use Rattle.pmt_image.proofs.Prelude.{drop, AllByRecursion, count_in, IsBetween}
 use Rattle.pmt_image.proofs.crash.check_bounds.Given as goal
 
 abbrev pub invariant-loop-index : goal.invariant-loop-index

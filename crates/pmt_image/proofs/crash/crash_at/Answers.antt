@@ -1,10 +1,6 @@
-use Rattle.std.proofs.Common.{◌≡◌, ℕ, ◌∙◌}
-use Rattle.std.specs.Prelude.{if◌then◌else◌}
-use Rattle.pmt_laws.specs.Prelude.{count_at, front_at}
-use Rattle.pmt_image.specs.Crashes.{count_in, asked_count}
+use Rattle.pmt_image.proofs.Prelude.{◌≡◌, ℕ, ◌∙◌, if◌then◌else◌, count_at, front_at, count_in, asked_count}
 use Rattle.pmt_image.proofs.CountLemmas.{counts-same, chosen-first, chosen-second, box-may, box-with, box-base, between-same}
 use Rattle.pmt_image.proofs.crash.crash_at.Goals as goal
-use Rattle.pmt_image.proofs.crash.crash_at.Goals.{then-all, else-all}
 
 pub returns-clause-counts : goal.returns-clause-counts
 returns-clause-counts c =
@@ -12,10 +8,10 @@ returns-clause-counts c =
     let n = c.args.place in
     let base : (k : ℕ) → count_in c.if-all.persisted k ≡ (if c.args.all then count_at T k n else front_at T k n) = λ k.
     elim c.if-all.branch [
-      | then-all w ↦
+      | goal.then-all w ↦
           let told : count_in c.if-all.persisted k ≡ count_at T k n = cc (w.persisted-is, c.in_ok-least.ensures.greatest k) in
           told ∙ chosen-first c.args.all (count_at T k n) (front_at T k n) w.if-all.true
-      | else-all w ↦
+      | goal.else-all w ↦
           let told : count_in c.if-all.persisted k ≡ front_at T k n = cc (w.persisted-is, c.in_ok-least.ensures.least k) in
           told ∙ chosen-second c.args.all (count_at T k n) (front_at T k n) w.if-all.false
     ] in

@@ -1,8 +1,5 @@
-use Rattle.std.proofs.Common.{ap, ◌∙◌, List, map, arith}
+use Rattle.pmt_image.proofs.Prelude.{ap, ◌∙◌, List, map, arith, full_line, LineCount, count_in, with_counts, persisted_entry}
 use Rattle.pmt_reasons.specs.Failures.{persisted_at}
-use Rattle.pmt_explain.specs.Crashes.{full_line}
-use Rattle.pmt_explain.specs.declared.lines.LineCount.{LineCount}
-use Rattle.pmt_image.specs.Crashes.{count_in, with_counts, persisted_entry}
 use Rattle.pmt_image.proofs.CountLemmas.{box-may, failure-box, failure-told}
 use Rattle.pmt_image.proofs.crash.crash_of_failure.Goals as goal
 

@@ -1,6 +1,4 @@
-use Rattle.std.proofs.Common.{ap, ◌∙◌, List}
-use Rattle.pmt_image.specs.declared.crash.LineStores.{LineStores}
-use Rattle.pmt_image.specs.Crashes.{with_counts}
+use Rattle.pmt_image.proofs.Prelude.{ap, ◌∙◌, List, LineStores, with_counts}
 use Rattle.pmt_image.proofs.crash.persisted_table.Goals as goal
 
 pub returns : goal.returns

@@ -1,7 +1,4 @@
-use Rattle.std.proofs.Common.{◌<◌, ◌+◌, List, length, get_or, drop, sym, ap, ◌∙◌, arith}
-use Rattle.std.proofs.lemmas.List.{drop_more, drop_all}
-use Rattle.pmt_image.specs.declared.crash.LineStores.{LineStores}
-use Rattle.pmt_image.specs.Crashes.{count_in, with_counts}
+use Rattle.pmt_image.proofs.Prelude.{◌<◌, ◌+◌, List, length, get_or, drop, sym, ap, ◌∙◌, arith, drop_more, drop_all, LineStores, count_in, with_counts}
 use Rattle.pmt_image.proofs.CountLemmas.{counts-next}
 use Rattle.pmt_image.proofs.crash.set_counts.Goals as goal
 

@@ -1,5 +1,4 @@
-use Rattle.std.proofs.Common.{◌≡◌, ℕ, drop}
-use Rattle.pmt_image.specs.Crashes.{count_in, with_counts}
+use Rattle.pmt_image.proofs.Prelude.{◌≡◌, ℕ, drop, count_in, with_counts}
 use Rattle.pmt_image.proofs.crash.set_counts.Given as goal
 
 abbrev pub invariant-loop-index : goal.invariant-loop-index

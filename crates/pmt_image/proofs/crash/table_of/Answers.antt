@@ -1,5 +1,4 @@
-use Rattle.std.proofs.Common.{◌∙◌, rules}
-use Rattle.pmt_image.specs.Crashes.{count_in}
+use Rattle.pmt_image.proofs.Prelude.{◌∙◌, rules, count_in}
 use Rattle.pmt_image.proofs.CountLemmas.{counts-same}
 use Rattle.pmt_image.proofs.crash.table_of.Goals as goal
 

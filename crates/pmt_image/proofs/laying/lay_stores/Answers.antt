@@ -1,5 +1,4 @@
-use Rattle.std.proofs.Common.{sym, arith}
-use Rattle.std.proofs.lemmas.List.{take_all}
+use Rattle.pmt_image.proofs.Prelude.{sym, arith, take_all}
 use Rattle.pmt_image.proofs.LayLemmas.{are_laid-none, are_laid-next, are_laid-all}
 use Rattle.pmt_image.proofs.laying.lay_stores.Goals as goal
 

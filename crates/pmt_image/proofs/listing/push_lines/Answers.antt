@@ -1,8 +1,4 @@
-use Rattle.std.proofs.Common.{◌<◌, ◌++◌, ℕ, List, length, get_or, take, sym, ap, ◌∙◌, arith}
-use Rattle.std.specs.List.{flat_map}
-use Rattle.std.proofs.lemmas.List.{flat_map_more, take_all, take_more}
-use Rattle.pmt_image.specs.declared.crash.LineStores.{LineStores}
-use Rattle.pmt_image.specs.Listing.{line_words}
+use Rattle.pmt_image.proofs.Prelude.{◌<◌, ◌++◌, ℕ, List, length, get_or, take, sym, ap, ◌∙◌, arith, flat_map, flat_map_more, take_all, take_more, LineStores, line_words}
 use Rattle.pmt_image.proofs.listing.push_lines.Goals as goal
 
 -- what stands past the end of a list

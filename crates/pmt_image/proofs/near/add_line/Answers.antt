@@ -1,5 +1,4 @@
-use Rattle.std.proofs.Common.{◌-◌}
-use Rattle.pmt_image.specs.Crashes.{low_of, settings}
+use Rattle.pmt_image.proofs.Prelude.{◌-◌, low_of, settings}
 use Rattle.pmt_image.proofs.NearLemmas.{grown-more}
 use Rattle.pmt_image.proofs.near.add_line.Goals as goal
 

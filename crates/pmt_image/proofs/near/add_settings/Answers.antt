@@ -1,6 +1,4 @@
-use Rattle.std.proofs.Common.{arith, map}
-use Rattle.std.proofs.lemmas.Grind.{elements}
-use Rattle.pmt_image.specs.Crashes.{low_of}
+use Rattle.pmt_image.proofs.Prelude.{arith, map, elements, low_of}
 use Rattle.pmt_image.proofs.NearLemmas.{setting-step}
 use Rattle.pmt_image.proofs.near.add_settings.Goals as goal
 

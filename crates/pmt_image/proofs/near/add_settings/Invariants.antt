@@ -1,5 +1,4 @@
-use Rattle.std.proofs.Common.{◌≡◌, ◌++◌, map}
-use Rattle.pmt_image.specs.Crashes.{low_of, set_to}
+use Rattle.pmt_image.proofs.Prelude.{◌≡◌, ◌++◌, map, low_of, set_to}
 use Rattle.pmt_image.proofs.near.add_settings.Given as goal
 
 abbrev pub invariant-loop-step : goal.invariant-loop-step

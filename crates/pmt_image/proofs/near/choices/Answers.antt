@@ -1,8 +1,4 @@
-use Rattle.std.proofs.Common.{◌<◌, ◌+◌, List, length, drop, map, sym, ap, ◌∙◌, arith}
-use Rattle.std.proofs.lemmas.List.{drop_more, drop_all}
-use Rattle.pmt_explain.specs.declared.lines.LineCount.{LineCount}
-use Rattle.pmt_image.specs.declared.crash.LineStores.{LineStores}
-use Rattle.pmt_image.specs.Crashes.{chosen}
+use Rattle.pmt_image.proofs.Prelude.{◌<◌, ◌+◌, List, length, drop, map, sym, ap, ◌∙◌, arith, drop_more, drop_all, LineCount, LineStores, chosen}
 use Rattle.pmt_image.proofs.near.choices.Goals as goal
 
 -- what stands past the end of a list

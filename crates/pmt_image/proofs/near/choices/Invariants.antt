@@ -1,5 +1,4 @@
-use Rattle.std.proofs.Common.{◌≡◌, [], ◌∷◌, drop, map}
-use Rattle.pmt_image.specs.Crashes.{chosen}
+use Rattle.pmt_image.proofs.Prelude.{◌≡◌, [], ◌∷◌, drop, map, chosen}
 use Rattle.pmt_image.proofs.near.choices.Given as goal
 
 abbrev pub invariant-loop-index : goal.invariant-loop-index

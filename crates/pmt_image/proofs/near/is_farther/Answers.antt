@@ -1,11 +1,6 @@
-use Rattle.std.proofs.Common.{◌<◌, List, length, sym, ap, arith}
-use Rattle.std.proofs.lemmas.Bool.{lt-ltb, le-ltb}
-use Rattle.std.proofs.lemmas.List.{drop_all}
-use Rattle.pmt_explain.specs.declared.lines.LineCount.{LineCount}
-use Rattle.pmt_image.specs.Crashes.{fronts_off}
+use Rattle.pmt_image.proofs.Prelude.{◌<◌, List, length, sym, ap, arith, lt-ltb, le-ltb, drop_all, LineCount, fronts_off}
 use Rattle.pmt_image.proofs.NearLemmas.{off-next, off-same}
 use Rattle.pmt_image.proofs.near.is_farther.Goals as goal
-use Rattle.pmt_image.proofs.near.is_farther.Goals.{then-stores-line+else-off-most, else-stores-line}
 
 -- what stands past the end of a list
 abbrev none : LineCount
@@ -26,11 +21,11 @@ loop-index-preserved c =
     let i = c.loop-index.index in
     let inside : i < length xs = omega (arith, c.loop-index-test.true) in
     elim c.if-stores-line.branch [
-      | then-stores-line+else-off-most w ↦
+      | goal.then-stores-line+else-off-most w ↦
           let next = off-next xs i none c.args.choice.now c.stores_of-stores.result inside c.stores_of-stores.ensures w.if-stores-line.true in
           let sum = c.loop-index.invariant.sum in
           record { sum = omega (arith, next, sum, w.off-is); few = omega arith }
-      | else-stores-line w ↦
+      | goal.else-stores-line w ↦
           let next = off-same xs i none c.args.choice.now c.stores_of-stores.result inside c.stores_of-stores.ensures w.if-stores-line.false in
           let sum = c.loop-index.invariant.sum in
           record { sum = omega (arith, next, sum, w.off-is); few = omega arith }

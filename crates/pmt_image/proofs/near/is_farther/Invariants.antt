@@ -1,5 +1,4 @@
-use Rattle.std.proofs.Common.{◌≡◌, ◌+◌, ◌≤◌, drop}
-use Rattle.pmt_image.specs.Crashes.{fronts_off}
+use Rattle.pmt_image.proofs.Prelude.{◌≡◌, ◌+◌, ◌≤◌, drop, fronts_off}
 use Rattle.pmt_image.proofs.near.is_farther.Given as goal
 
 abbrev pub invariant-loop-index : goal.invariant-loop-index

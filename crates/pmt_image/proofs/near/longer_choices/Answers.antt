@@ -1,7 +1,4 @@
-use Rattle.std.proofs.Common.{◌<◌, ◌-◌, ◌++◌, List, length, map, ap, ◌∙◌, arith}
-use Rattle.std.proofs.lemmas.Grind.{elements}
-use Rattle.pmt_image.specs.declared.crash.LineStores.{LineStores}
-use Rattle.pmt_image.specs.Crashes.{low_of, settings}
+use Rattle.pmt_image.proofs.Prelude.{◌<◌, ◌-◌, ◌++◌, List, length, map, ap, ◌∙◌, arith, elements, LineStores, low_of, settings}
 use Rattle.pmt_image.proofs.NearLemmas.{flat-step}
 use Rattle.pmt_image.proofs.near.longer_choices.Goals as goal
 

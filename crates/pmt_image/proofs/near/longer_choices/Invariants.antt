@@ -1,6 +1,4 @@
-use Rattle.std.proofs.Common.{◌≡◌, ◌-◌, take, map}
-use Rattle.std.specs.List.{flat_map}
-use Rattle.pmt_image.specs.Crashes.{low_of, settings}
+use Rattle.pmt_image.proofs.Prelude.{◌≡◌, ◌-◌, take, map, flat_map, low_of, settings}
 use Rattle.pmt_image.proofs.near.longer_choices.Given as goal
 
 abbrev pub invariant-loop-choice : goal.invariant-loop-choice

@@ -1,8 +1,4 @@
-use Rattle.std.proofs.Common.{List, ap, ◌∙◌}
-use Rattle.std.specs.Prelude.{nat_lt}
-use Rattle.std.specs.List.{filter}
-use Rattle.pmt_image.specs.declared.crash.LineStores.{LineStores}
-use Rattle.pmt_image.specs.Crashes.{fronts_off}
+use Rattle.pmt_image.proofs.Prelude.{List, ap, ◌∙◌, nat_lt, filter, LineStores, fronts_off}
 use Rattle.pmt_image.proofs.NearLemmas.{map-kept}
 use Rattle.pmt_image.proofs.near.near_choices.Goals as goal
 

@@ -1,10 +1,6 @@
-use Rattle.std.proofs.Common.{◌<◌, List, length, sym, ap, ◌∙◌, arith}
-use Rattle.std.proofs.lemmas.List.{drop_all}
-use Rattle.pmt_image.specs.declared.crash.LineStores.{LineStores}
-use Rattle.pmt_image.specs.Crashes.{with_counts}
+use Rattle.pmt_image.proofs.Prelude.{◌<◌, List, length, sym, ap, ◌∙◌, arith, drop_all, LineStores, with_counts}
 use Rattle.pmt_image.proofs.NearLemmas.{told-next, told-same}
 use Rattle.pmt_image.proofs.near.stores_of.Goals as goal
-use Rattle.pmt_image.proofs.near.stores_of.Goals.{then-chosen-line, else-chosen-line}
 
 -- what stands past the end of a list
 abbrev none : LineStores
@@ -16,8 +12,8 @@ loop-index-preserved c =
     let i = c.loop-index.index in
     let inside : i < length xs = omega (arith, c.loop-index-test.true) in
     elim c.if-chosen-line.branch [
-      | then-chosen-line w ↦ rw w.stores-is (told-next xs i none c.loop-index.stores c.args.line inside w.if-chosen-line.true ∙ c.loop-index.invariant)
-      | else-chosen-line w ↦ rw w.stores-is (told-same xs i none c.loop-index.stores c.args.line inside w.if-chosen-line.false ∙ c.loop-index.invariant)
+      | goal.then-chosen-line w ↦ rw w.stores-is (told-next xs i none c.loop-index.stores c.args.line inside w.if-chosen-line.true ∙ c.loop-index.invariant)
+      | goal.else-chosen-line w ↦ rw w.stores-is (told-same xs i none c.loop-index.stores c.args.line inside w.if-chosen-line.false ∙ c.loop-index.invariant)
     ]
 
 pub returns : goal.returns

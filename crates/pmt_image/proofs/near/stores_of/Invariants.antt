@@ -1,5 +1,4 @@
-use Rattle.std.proofs.Common.{◌≡◌, drop}
-use Rattle.pmt_image.specs.Crashes.{with_counts}
+use Rattle.pmt_image.proofs.Prelude.{◌≡◌, drop, with_counts}
 use Rattle.pmt_image.proofs.near.stores_of.Given as goal
 
 abbrev pub invariant-loop-index : goal.invariant-loop-index

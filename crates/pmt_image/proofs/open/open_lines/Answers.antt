@@ -1,11 +1,5 @@
-use Rattle.std.proofs.Common.{◌<◌, ℕ, List, length, map, get_or, take, reverse, sym, ap, ◌∙◌, arith}
-use Rattle.std.specs.Prelude.{if◌then◌else◌, ◌==◌}
-use Rattle.std.proofs.lemmas.List.{take_all}
-use Rattle.pmt_model.specs.Traces.{with_line}
-use Rattle.pmt_explain.specs.declared.lines.LineCount.{LineCount}
+use Rattle.pmt_image.proofs.Prelude.{◌<◌, ℕ, List, length, map, get_or, take, reverse, sym, ap, ◌∙◌, arith, if◌then◌else◌, ◌==◌, take_all, with_line, LineCount, StoreSpan, line_by, lines_of_spans, with_span}
 use Rattle.pmt_explain.specs.Crashes.{count_in}
-use Rattle.pmt_image.specs.declared.spans.StoreSpan.{StoreSpan}
-use Rattle.pmt_image.specs.Spans.{line_by, lines_of_spans, with_span}
 use Rattle.pmt_image.proofs.SpanLemmas.{mapped-same, newest-first}
 use Rattle.pmt_image.proofs.open.open_lines.Goals as goal
 

@@ -1,7 +1,6 @@
-use Rattle.std.proofs.Common.{◌≡◌, ℕ, take, reverse}
+use Rattle.pmt_image.proofs.Prelude.{◌≡◌, ℕ, take, reverse, line_by, lines_of_spans}
 use Rattle.indexmap.specs.IndexMap.{keys}
 use Rattle.pmt_explain.specs.Crashes.{count_in}
-use Rattle.pmt_image.specs.Spans.{line_by, lines_of_spans}
 use Rattle.pmt_image.proofs.open.open_lines.Given as goal
 
 abbrev pub invariant-loop-index : goal.invariant-loop-index

@@ -1,7 +1,4 @@
-use Rattle.std.proofs.Common.{◌<◌, ◌≤◌, length, sym, ap, ◌∙◌, add-one, arith, Some}
-use Rattle.std.proofs.lemmas.Grind.{elements}
-use Rattle.std.proofs.lemmas.Option.{slice_get-get_or}
-use Rattle.pmt_image.specs.Crashes.{persisted_by}
+use Rattle.pmt_image.proofs.Prelude.{◌<◌, ◌≤◌, length, sym, ap, ◌∙◌, add-one, arith, Some, elements, slice_get-get_or, persisted_by}
 use Rattle.pmt_image.proofs.StoreLemmas.{count-few, found-next, fault-found}
 use Rattle.pmt_image.proofs.persisting.persisted_stores.Goals as goal
 

@@ -1,6 +1,4 @@
-use Rattle.pmt_model.specs.Traces.{history}
-use Rattle.pmt_image.specs.Crashes.{persisted_by, AreFound}
-use Rattle.pmt_image.specs.Pools.{AllInside}
+use Rattle.pmt_image.proofs.Prelude.{history, persisted_by, AreFound, AllInside}
 use Rattle.pmt_image.proofs.persisting.persisted_stores.Given as goal
 
 abbrev pub invariant-loop-index : goal.invariant-loop-index

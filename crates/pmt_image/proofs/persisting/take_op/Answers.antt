@@ -1,5 +1,4 @@
-use Rattle.std.proofs.Common.{arith}
-use Rattle.std.proofs.lemmas.Grind.{elements}
+use Rattle.pmt_image.proofs.Prelude.{arith, elements}
 use Rattle.pmt_image.proofs.persisting.take_op.Goals as goal
 
 pub returns-in-Some-clause-fault : goal.returns-in-Some-clause-fault

@@ -1,14 +1,5 @@
-use Rattle.std.proofs.Common.{ℕ, suc, ◌+◌, ◌<◌, ◌≤◌, List, [], ◌∷◌, length, Some, subst, sym, ap, ◌∙◌, add-one, arith}
-use Rattle.std.proofs.lemmas.Grind.{elements}
-use Rattle.std.proofs.lemmas.Option.{slice_get-get_or}
-use Rattle.std.proofs.lemmas.List.{length-append}
-use Rattle.pmt_laws.specs.Prelude.{Act, IsAct, act_of, count_at}
-use Rattle.pmt_laws.proofs.Histories.{act-unique}
-use Rattle.pmt_explain.specs.Following.{TellsSafe}
+use Rattle.pmt_image.proofs.Prelude.{ℕ, suc, ◌+◌, ◌<◌, ◌≤◌, List, [], ◌∷◌, length, Some, subst, sym, ap, ◌∙◌, add-one, arith, elements, slice_get-get_or, length-append, Act, IsAct, act_of, count_at, act-unique, TellsSafe, StoreSpan, count_in, IsSpan}
 use Rattle.pmt_explain.proofs.FollowingLemmas.{event-at}
-use Rattle.pmt_image.specs.declared.spans.StoreSpan.{StoreSpan}
-use Rattle.pmt_image.specs.Crashes.{count_in}
-use Rattle.pmt_image.specs.Spans.{IsSpan}
 use Rattle.pmt_image.proofs.StoreLemmas.{count-few}
 use Rattle.pmt_image.proofs.SpanLemmas.{span-next, spans-more, stored-next}
 use Rattle.pmt_image.proofs.spans.store_spans.Goals as goal

@@ -1,9 +1,4 @@
-use Rattle.std.proofs.Common.{◌≡◌, ℕ, suc, length}
-use Rattle.std.specs.Prelude.{slice_get, Some}
-use Rattle.pmt_laws.specs.Prelude.{Act, IsAct, count_at}
-use Rattle.pmt_image.specs.declared.spans.StoreSpan.{StoreSpan}
-use Rattle.pmt_image.specs.Crashes.{count_in}
-use Rattle.pmt_image.specs.Spans.{IsSpan}
+use Rattle.pmt_image.proofs.Prelude.{◌≡◌, ℕ, suc, length, slice_get, Some, Act, IsAct, count_at, StoreSpan, count_in, IsSpan}
 use Rattle.pmt_image.proofs.spans.store_spans.Given as goal
 
 abbrev pub invariant-loop-index : goal.invariant-loop-index

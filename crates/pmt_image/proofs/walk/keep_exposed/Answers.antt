@@ -1,5 +1,4 @@
-use Rattle.std.proofs.Common.{rules}
-use Rattle.std.proofs.lemmas.Fn.{filter_same}
+use Rattle.pmt_image.proofs.Prelude.{rules, filter_same}
 use Rattle.pmt_image.proofs.walk.keep_exposed.Goals as goal
 
 pub returns : goal.returns

@@ -1,5 +1,4 @@
-use Rattle.std.proofs.Common.{◌≡◌, ◌∙◌, sym, ap, arith, None, Some, option_map}
-use Rattle.pmt_text.specs.Judging.{address_in, number_in, capped}
+use Rattle.pmt_image.proofs.Prelude.{◌≡◌, ◌∙◌, sym, ap, arith, None, Some, option_map, address_in, number_in, capped}
 use Rattle.pmt_image.proofs.WordLemmas.{IsCut, asks-this, no-address, no-address-past, no-colon, no-number}
 use Rattle.pmt_image.proofs.words.read_line_word.Goals as goal
 

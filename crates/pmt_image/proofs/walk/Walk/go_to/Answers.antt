@@ -1,7 +1,4 @@
-use Rattle.std.proofs.Common.{◌≡◌, ◌++◌, ◌-◌, List, length, take, drop, ap, ◌∙◌, arith}
-use Rattle.std.specs.Prelude.{nat_lt}
-use Rattle.std.specs.List.{filter}
-use Rattle.pmt_image.specs.declared.spans.StoreSpan.{StoreSpan}
+use Rattle.pmt_image.proofs.Prelude.{◌≡◌, ◌++◌, ◌-◌, List, length, take, drop, ap, ◌∙◌, arith, nat_lt, filter, StoreSpan}
 use Rattle.pmt_image.proofs.WalkLemmas.{exposed-later}
 use Rattle.pmt_image.proofs.walk.Walk.go_to.Goals as goal
 

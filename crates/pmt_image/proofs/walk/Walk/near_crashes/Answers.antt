@@ -1,6 +1,4 @@
-use Rattle.std.proofs.Common.{◌≡◌, List, length, map, min, reverse, subst, sym, ap, ◌∙◌, arith}
-use Rattle.pmt_image.specs.declared.spans.StoreSpan.{StoreSpan}
-use Rattle.pmt_image.specs.Spans.{AreSpans, line_by, lines_of_spans, exposed_by, IsAt}
+use Rattle.pmt_image.proofs.Prelude.{◌≡◌, List, length, map, min, reverse, subst, sym, ap, ◌∙◌, arith, StoreSpan, AreSpans, line_by, lines_of_spans, exposed_by, IsAt}
 use Rattle.pmt_image.proofs.NearLemmas.{AreOpen, near-all}
 use Rattle.pmt_image.proofs.SpanLemmas.{open-exposed}
 use Rattle.pmt_image.proofs.WalkLemmas.{near-past}
