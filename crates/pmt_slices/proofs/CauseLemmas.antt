@@ -1,11 +1,5 @@
 -- Whether and why the stores of an assertion are pending, in the trace and in its slice.
-use Rattle.std.proofs.Common.{◌≡◌, ℕ, ◌≤◌, List, Option, Some, None, refl, arith}
-use Rattle.std.specs.Prelude.{◌↔◌}
-use Rattle.pmt_explain.specs.Prelude.{Written, Stores, Flushes, Clflushes, Fences, Recording, IsAct, IsFlushOf, ByFlush, ByClflush, IsSafe, Has, cut, matching_place, option_map, Cause, Later, Unflushed, Unfenced, IsUnfenced, IsFirstFenceAt, IsFirstFence, IsCause}
-use Rattle.pmt_laws.proofs.CutLemmas.{place-mono}
-use Rattle.pmt_reasons.proofs.CauseLemmas.{cause-unsafe}
-use Rattle.pmt_safety.proofs.SafetyLemmas.{front-covers, safe-up_to, safe-later}
-use Rattle.pmt_slices.specs.Slices.{IsSubsequence, IsFirstFlush, Tells, Itself, FirstFlush, FirstFence, cause_in, SliceTells}
+use Rattle.pmt_slices.proofs.Prelude.{◌≡◌, ℕ, ◌≤◌, List, Option, Some, None, refl, arith, ◌↔◌, Written, Stores, Flushes, Clflushes, Fences, Recording, IsAct, IsFlushOf, ByFlush, ByClflush, IsSafe, Has, cut, matching_place, option_map, Cause, Later, Unflushed, Unfenced, IsUnfenced, IsFirstFenceAt, IsFirstFence, IsCause, place-mono, cause-unsafe, front-covers, safe-up_to, safe-later, IsSubsequence, IsFirstFlush, Tells, Itself, FirstFlush, FirstFence, cause_in, SliceTells}
 use Rattle.pmt_slices.proofs.CuttingLemmas.{kept-act, act-origin, placed-later, later-origin, placed-by}
 use Rattle.pmt_slices.proofs.CoverLemmas.{safe-stays}
 use Rattle.pmt_slices.proofs.SliceLemmas.{range-within, slice-subsequence, slice-has, tells-cover}

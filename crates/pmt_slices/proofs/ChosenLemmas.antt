@@ -1,13 +1,5 @@
 -- What is chosen, going back event by event.
-use Rattle.std.proofs.Common.{◌≡◌, ℕ, zero, suc, ◌<◌, ◌≤◌, ◌⊎◌, inl, inr, Bool, true, false, List, length, Some, [], ◌∷◌, get_or, sym, subst, ◌∙◌, true≢false, arith}
-use Rattle.std.specs.Prelude.{◌↔◌}
-use Rattle.std.proofs.lemmas.Bool.{cases_lt}
-use Rattle.std.proofs.lemmas.Option.{same_Some}
-use Rattle.pmt_laws.specs.Prelude.{Written, Span, Stores, Event, IsPersist, IsOrderedBefore, Recording, IsAct, event, IsRising, Has}
-use Rattle.pmt_laws.proofs.Histories.{act-unique, act-within}
-use Rattle.pmt_safety.specs.Safety.{IsLastIn}
-use Rattle.pmt_slices.specs.declared.coming.Coming.{Coming}
-use Rattle.pmt_slices.specs.Slices.{Tells, Speaks, IsRangeOf, IsInSlice, TheAssertion, OfStore, IsSlice, IsComing, IsChosen, HasChosen, Chooses, IsOfStore}
+use Rattle.pmt_slices.proofs.Prelude.{◌≡◌, ℕ, zero, suc, ◌<◌, ◌≤◌, ◌⊎◌, inl, inr, Bool, true, false, List, length, Some, [], ◌∷◌, get_or, sym, subst, ◌∙◌, true≢false, arith, ◌↔◌, cases_lt, same_Some, Written, Span, Stores, Event, IsPersist, IsOrderedBefore, Recording, IsAct, event, IsRising, Has, act-unique, act-within, IsLastIn, Coming, Tells, Speaks, IsRangeOf, IsInSlice, TheAssertion, OfStore, IsSlice, IsComing, IsChosen, HasChosen, Chooses, IsOfStore}
 use Rattle.pmt_slices.proofs.SliceLemmas.{tells-within, tells-some, persist-range, first-range, second-range}
 use Rattle.pmt_slices.proofs.ComingLemmas.{tells-coming, coming-tells}
 

@@ -1,14 +1,5 @@
 -- What comes after a place of one line, going back event by event, and what it tells of a store there.
-use Rattle.std.proofs.Common.{◌≡◌, ◌≢◌, ℕ, suc, ◌<◌, ◌≤◌, ◌⊎◌, inl, inr, min, refl, sym, subst, ◌∙◌, arith}
-use Rattle.std.proofs.lemmas.Bool.{cases_lt}
-use Rattle.pmt_explain.specs.Prelude.{Written, Act, Stores, Flushes, Clflushes, Fences, Recording, IsAct, IsFlushOf, ByFlush, ByClflush, IsFirstFenceAt}
-use Rattle.pmt_laws.proofs.Histories.{act-unique}
-use Rattle.pmt_safety.specs.Safety.{IsSafeFrom}
-use Rattle.pmt_explain.specs.Following.{IsFirst, IsFenceAfter, IsCompleteBy, ByFence, ByItself, IsCompletedAfter}
-use Rattle.pmt_explain.proofs.FirstLemmas.{first-same, first-either, first-here, first-over}
-use Rattle.pmt_explain.proofs.FollowingLemmas.{own-flush}
-use Rattle.pmt_slices.specs.declared.coming.Coming.{Coming}
-use Rattle.pmt_slices.specs.Slices.{IsFirstFlush, IsFirstFlushBy, Tells, Itself, Completes, Covers, FirstFlush, FirstFence, IsFlushAfter, IsAnyFenceAfter, IsCompletion, OfFence, OfClflush, IsComing, IsOfStore, TheStore, TheFlush, TheCompletion, TheCover, TheFence}
+use Rattle.pmt_slices.proofs.Prelude.{◌≡◌, ◌≢◌, ℕ, suc, ◌<◌, ◌≤◌, ◌⊎◌, inl, inr, min, refl, sym, subst, ◌∙◌, arith, cases_lt, Written, Act, Stores, Flushes, Clflushes, Fences, Recording, IsAct, IsFlushOf, ByFlush, ByClflush, IsFirstFenceAt, act-unique, IsSafeFrom, IsFirst, IsFenceAfter, IsCompleteBy, ByFence, ByItself, IsCompletedAfter, first-same, first-either, first-here, first-over, own-flush, Coming, IsFirstFlush, IsFirstFlushBy, Tells, Itself, Completes, Covers, FirstFlush, FirstFence, IsFlushAfter, IsAnyFenceAfter, IsCompletion, OfFence, OfClflush, IsComing, IsOfStore, TheStore, TheFlush, TheCompletion, TheCover, TheFence}
 use Rattle.pmt_slices.proofs.TellLemmas.{completed-is_safe, first-flush-unique}
 
 -- there is one first number

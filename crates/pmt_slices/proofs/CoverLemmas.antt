@@ -1,16 +1,7 @@
 -- Stores that are safe in a trace and in the trace cut to a subsequence.
-use Rattle.std.proofs.Common.{◌≡◌, ℕ, zero, suc, ◌<◌, ◌≤◌, ◌⊎◌, inl, inr, List, arith}
-use Rattle.std.specs.Prelude.{◌↔◌}
-use Rattle.std.proofs.lemmas.Bool.{cases_lt}
-use Rattle.pmt_laws.specs.Prelude.{Written, Stores, Flushes, Clflushes, Fences, Recording, IsAct, count_at, front_at, Has, cut, matching_place}
-use Rattle.pmt_laws.proofs.Histories.{act-within, count-mono}
-use Rattle.pmt_laws.proofs.CutLemmas.{place-mono}
-use Rattle.pmt_reasons.proofs.CauseLemmas.{rank-above, marks-later}
-use Rattle.pmt_safety.specs.Safety.{safe_store_at, IsSafeFrom}
-use Rattle.pmt_safety.proofs.SafetyLemmas.{front-covers, safe-up_to, safe-later}
-use Rattle.pmt_explain.specs.Following.{IsCompleteBy, ByFence, ByItself, IsCompletedAfter}
+use Rattle.pmt_slices.proofs.Prelude.{◌≡◌, ℕ, zero, suc, ◌<◌, ◌≤◌, ◌⊎◌, inl, inr, List, arith, ◌↔◌, cases_lt, Written, Stores, Flushes, Clflushes, Fences, Recording, IsAct, count_at, front_at, Has, cut, matching_place, act-within, count-mono, place-mono, rank-above, marks-later, safe_store_at, IsSafeFrom, front-covers, safe-up_to, safe-later, IsCompleteBy, ByFence, ByItself, IsCompletedAfter, IsSubsequence, HasCover}
 use Rattle.pmt_explain.proofs.ReachLemmas.{complete-front, front-complete}
-use Rattle.pmt_slices.specs.Slices.{IsSubsequence, HasCover, ByFlush, ByClflush}
+use Rattle.pmt_slices.specs.Slices.{ByFlush, ByClflush}
 use Rattle.pmt_slices.proofs.CuttingLemmas.{kept-act, act-origin, placed-later, later-origin, placed-by}
 
 -- a store that the front counts was marked by a flush after it that is complete

@@ -1,12 +1,5 @@
 -- Events of a trace, and those of the trace cut to a subsequence.
-use Rattle.std.proofs.Common.{◌≡◌, ℕ, zero, suc, ◌<◌, ◌≤◌, inl, inr, List, [], ◌∷◌, length, Option, Some, None, filter_map, refl, sym, ap, ◌∙◌, arith}
-use Rattle.std.specs.Prelude.{slice_get}
-use Rattle.std.proofs.lemmas.Bool.{cases_lt, le-leb, lt-leb}
-use Rattle.pmt_laws.specs.Prelude.{Event, Act, Stores, Recording, event, IsAct, history, last_store_number, IsRising, Has, cut, matching_place}
-use Rattle.pmt_laws.proofs.Histories.{event-some, act-within}
-use Rattle.pmt_laws.proofs.CutLemmas.{has-above, place-low, place-kept, place-mono}
-use Rattle.pmt_laws.proofs.OverwrittenLemmas.{IsLastWriter, LastWriter, last_store_number-tells, last_store_number-from, last_store_number-is}
-use Rattle.pmt_slices.specs.Slices.{IsSubsequence}
+use Rattle.pmt_slices.proofs.Prelude.{◌≡◌, ℕ, zero, suc, ◌<◌, ◌≤◌, inl, inr, List, [], ◌∷◌, length, Option, Some, None, filter_map, refl, sym, ap, ◌∙◌, arith, slice_get, cases_lt, le-leb, lt-leb, Event, Act, Stores, Recording, event, IsAct, history, last_store_number, IsRising, Has, cut, matching_place, event-some, act-within, has-above, place-low, place-kept, place-mono, IsLastWriter, LastWriter, last_store_number-tells, last_store_number-from, last_store_number-is, IsSubsequence}
 
 -- each number is that of an event
 abbrev AreThere : Recording → List ℕ → Type 0
@@ -17,10 +10,10 @@ are-there T K s zero h = let above : 0 < 0 = has-above 0 K 0 s.rising h in absur
 are-there T K s (suc n) h = let le : suc n ≤ length T.events = s.within (suc n) h in event-some T n (omega arith)
 
 -- one more of the numbers is at most n, or is not
-place-in : (k : ℕ) (ks : List ℕ) (n : ℕ) → k ≤ n → matching_place (k ∷ ks) n ≡ suc (matching_place ks n)
+pub place-in : (k : ℕ) (ks : List ℕ) (n : ℕ) → k ≤ n → matching_place (k ∷ ks) n ≡ suc (matching_place ks n)
 place-in k ks n h = rw (le-leb k n h) refl
 
-place-out : (k : ℕ) (ks : List ℕ) (n : ℕ) → n < k → matching_place (k ∷ ks) n ≡ matching_place ks n
+pub place-out : (k : ℕ) (ks : List ℕ) (n : ℕ) → n < k → matching_place (k ∷ ks) n ≡ matching_place ks n
 place-out k ks n h = rw (lt-leb k n h) refl
 
 -- the events of a cut, the first number's first

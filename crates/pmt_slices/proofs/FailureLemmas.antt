@@ -1,14 +1,6 @@
 -- The crash that violates an assertion, in the trace and in the assertion's slice.
-use Rattle.std.proofs.Common.{◌≡◌, ℕ, ◌<◌, ◌≤◌, ◌==◌, inl, inr, Bool, true, false, List, Option, Some, None, refl, sym, ap, subst, ◌∙◌, arith}
-use Rattle.std.specs.Prelude.{◌↔◌, if◌then◌else◌, MatchOption}
-use Rattle.std.proofs.lemmas.Bool.{cases_lt}
-use Rattle.pmt_explain.specs.Prelude.{Written, Span, Event, Op, Store, Clwb, ClflushOpt, Clflush, Sfence, Mfence, IsPersist, IsOrderedBefore, Stores, Recording, IsAct, act, event, count_at, front_at, Has, cut, matching_place, option_map, ByteStore, Failure, persisted_at, IsLost, IsLastIn, IsNoLater, IsFirstLost, IsPersistFailure, IsOrderedFailure, IsFailureOf, IsFailureAt}
-use Rattle.pmt_laws.proofs.Histories.{act-unique, act-within, count-mono}
-use Rattle.pmt_laws.proofs.OverwrittenLemmas.{last_store_number-is}
-use Rattle.pmt_reasons.proofs.CauseLemmas.{rank-above}
-use Rattle.pmt_safety.specs.Safety.{safe_store_at, IsLastIn as IsLast}
-use Rattle.pmt_safety.proofs.SafetyLemmas.{front-below}
-use Rattle.pmt_slices.specs.Slices.{IsSubsequence, HasGrounds, TheAssertion, IsRangeOf, IsSlice, store_in, failure_in, SliceFails}
+use Rattle.pmt_slices.proofs.Prelude.{◌≡◌, ℕ, ◌<◌, ◌≤◌, ◌==◌, inl, inr, Bool, true, false, List, Option, Some, None, refl, sym, ap, subst, ◌∙◌, arith, ◌↔◌, if◌then◌else◌, MatchOption, cases_lt, Written, Span, Event, Op, IsPersist, IsOrderedBefore, Stores, Recording, IsAct, act, event, count_at, front_at, Has, cut, matching_place, option_map, ByteStore, Failure, persisted_at, IsLost, IsNoLater, IsFirstLost, IsPersistFailure, IsOrderedFailure, IsFailureOf, IsFailureAt, act-unique, act-within, count-mono, last_store_number-is, rank-above, safe_store_at, IsLast, front-below, IsSubsequence, HasGrounds, TheAssertion, IsRangeOf, IsSlice, store_in, failure_in, SliceFails}
+use Rattle.pmt_explain.specs.Prelude.{IsLastIn}
 use Rattle.pmt_slices.proofs.CuttingLemmas.{kept-event, kept-act, placed-later, later-origin, last-kept, last-from}
 use Rattle.pmt_slices.proofs.VerdictLemmas.{grounds-safe}
 use Rattle.pmt_slices.proofs.SliceLemmas.{range-within, slice-subsequence, slice-grounds, persist-range, first-range, second-range}
@@ -167,14 +159,9 @@ pub slice_fails : SliceFails
 slice_fails T n K f slice fails = go (event T n) refl fails
   where
     of-op : (e : Event) → event T n ≡ Some e → (op : Op) → e.op ≡ op → IsFailureOf T n op (Some f) → IsFailureOf (cut T K) (matching_place K n) op (Some (failure_in K f))
-    of-op e is (Store w) op it = cc
-    of-op e is (Clwb a) op it = cc
-    of-op e is (ClflushOpt a) op it = cc
-    of-op e is (Clflush a) op it = cc
-    of-op e is Sfence op it = cc
-    of-op e is Mfence op it = cc
     of-op e is (IsPersist A) op it = persist-same T n K A f slice (persist-range T n e A is op) it
     of-op e is (IsOrderedBefore A B) op it = ordered-same T n K A B f slice (first-range T n e A B is op) (second-range T n e A B is op) it
+    of-op e is other op it = cc
 
     go : (o : Option Event) → event T n ≡ o → MatchOption o (Some f ≡ None) (λ e. IsFailureOf T n e.op (Some f)) → IsFailureAt (cut T K) (matching_place K n) (Some (failure_in K f))
     go None none it = cc

@@ -1,11 +1,5 @@
 -- What is known, going back event by event.
-use Rattle.std.proofs.Common.{◌≡◌, ◌≢◌, ℕ, suc, ◌≤◌, Bool, true, false, List, length, ◌∙◌}
-use Rattle.pmt_laws.specs.Prelude.{IsFormat, Written, Span, IsStore, line_of, Act, Stores, Recording, IsAct, InSpan}
-use Rattle.pmt_laws.proofs.Histories.{act-unique}
-use Rattle.pmt_slices.specs.declared.coming.Coming.{Coming}
-use Rattle.pmt_slices.specs.declared.scan.Scan.{Scan}
-use Rattle.pmt_slices.specs.declared.unwritten.Unwritten.{Unwritten}
-use Rattle.pmt_slices.specs.Slices.{IsComing, IsScan, IsGoneBack, Chooses, IsOfStore, TakesStore}
+use Rattle.pmt_slices.proofs.Prelude.{◌≡◌, ◌≢◌, ℕ, suc, ◌≤◌, Bool, true, false, List, length, ◌∙◌, IsFormat, Written, Span, IsStore, line_of, Act, Stores, Recording, IsAct, InSpan, act-unique, Coming, Scan, Unwritten, IsComing, IsScan, IsGoneBack, Chooses, IsOfStore, TakesStore}
 use Rattle.pmt_slices.proofs.ScanLemmas.{scan-over}
 use Rattle.pmt_slices.proofs.TakenLemmas.{byte-line, store-line, unwritten-over, unwritten-store, taken-last, untaken-not_last}
 use Rattle.pmt_slices.proofs.ChosenLemmas.{chosen-over, chosen-store}

@@ -1,3 +1,4 @@
+pub mod Prelude
 pub mod CuttingLemmas
 pub mod CoverLemmas
 pub mod VerdictLemmas

@@ -1,20 +1,7 @@
 -- What comes after a place of all lines of a range, going back event by event.
-use Rattle.std.proofs.Common.{◌≡◌, ◌≢◌, ℕ, zero, suc, ◌+◌, ◌*◌, ◌^◌, ◌<◌, ◌≤◌, ◌⊎◌, inl, inr, List, [], ◌∷◌, length, Some, get_or, set, get_or-set_same, get_or-set_other, refl, sym, ap, subst, ◌∙◌, arith}
-use Rattle.std.specs.Prelude.{slice_get, replicate}
-use Rattle.std.proofs.lemmas.Bool.{cases_eq}
-use Rattle.std.proofs.lemmas.List.{length-set, get_or-replicate, length-replicate}
-use Rattle.std.proofs.lemmas.Option.{none-some, same_Some, slice_get-get_or, get_or_from_slice_get, slice_get_within}
-use Rattle.pmt_laws.specs.Prelude.{Span, Layout, Written, line_of, Op, Store, Act, Stores, Flushes, Clflushes, Fences, Recording, IsAct, act_of, InSpan}
-use Rattle.pmt_laws.proofs.Histories.{act-unique}
+use Rattle.pmt_slices.proofs.Prelude.{◌≡◌, ◌≢◌, ℕ, zero, suc, ◌+◌, ◌*◌, ◌^◌, ◌<◌, ◌≤◌, ◌⊎◌, inl, inr, List, [], ◌∷◌, length, Some, get_or, set, get_or-set_same, get_or-set_other, refl, sym, ap, subst, ◌∙◌, arith, slice_get, replicate, cases_eq, length-set, get_or-replicate, length-replicate, none-some, same_Some, slice_get-get_or, get_or_from_slice_get, slice_get_within, Span, Layout, Written, line_of, Op, Store, Act, Stores, Flushes, Clflushes, Fences, Recording, IsAct, act_of, InSpan, act-unique, IsSpanned, LinesAreMet, IsFirst, IsFenceAfter, first-here, first-over, Coming, Scan, IsAnyFenceAfter, IsComing, IsScan, IsSize, Bytes32, Bytes64, Bytes128, Bytes256, size-of_format}
 use Rattle.pmt_tables.specs.declared.spanned.Spanned.{Spanned}
-use Rattle.pmt_tables.specs.Slots.{IsSpanned, LinesAreMet}
-use Rattle.pmt_explain.specs.Following.{IsFirst, IsFenceAfter}
-use Rattle.pmt_explain.proofs.FirstLemmas.{first-here, first-over}
-use Rattle.pmt_slices.specs.declared.coming.Coming.{Coming}
-use Rattle.pmt_slices.specs.declared.scan.Scan.{Scan}
-use Rattle.pmt_slices.specs.Slices.{IsAnyFenceAfter, IsComing, IsScan}
 use Rattle.pmt_slices.proofs.ComingLemmas.{coming-none, coming-over, coming-flush, coming-clflush}
-use Rattle.pmt_slices.proofs.TakenLemmas.{IsSize, Bytes32, Bytes64, Bytes128, Bytes256, size-of_format}
 
 -- fences after an event that is none
 fences-over : (T : Recording) (t m past first : ℕ) → ((u : ℕ) → ¬ IsAct T (suc m) (Fences u)) → IsFirst (IsFenceAfter T t (suc m)) past first → IsFirst (IsFenceAfter T t m) past first

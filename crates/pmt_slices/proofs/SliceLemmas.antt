@@ -1,10 +1,5 @@
 -- The slice of an assertion has the grounds of its verdict.
-use Rattle.std.proofs.Common.{◌≡◌, ℕ, ◌≤◌, inl, inr, List, length, Some, refl, sym, subst, ◌∙◌, arith, [], ◌∷◌}
-use Rattle.pmt_laws.specs.Prelude.{Written, Span, Event, IsPersist, IsOrderedBefore, Stores, Flushes, Clflushes, Fences, Recording, IsAct, event, act, IsVerdictOf, OfPersist, OfOrdered, Has, cut, AllByRecursion}
-use Rattle.std.proofs.lemmas.Bool.{cases_lt}
-use Rattle.pmt_laws.proofs.Histories.{act-within, act-unique}
-use Rattle.pmt_safety.specs.Safety.{IsSafeFrom, IsLastIn}
-use Rattle.pmt_slices.specs.Slices.{IsSubsequence, HasCover, ByFlush as ByFlushAndFence, ByClflush as ByOneClflush, HasGrounds, Tells, Itself, Completes, Covers, FirstFlush, FirstFence, IsRangeOf, IsAssertion, Speaks, IsInSlice, TheAssertion, OfStore, IsSlice, SliceJudges, verdict_in}
+use Rattle.pmt_slices.proofs.Prelude.{◌≡◌, ℕ, ◌≤◌, inl, inr, List, length, Some, refl, sym, subst, ◌∙◌, arith, [], ◌∷◌, Written, Span, Event, IsPersist, IsOrderedBefore, Stores, Flushes, Clflushes, Fences, Recording, IsAct, event, act, IsVerdictOf, OfPersist, OfOrdered, Has, cut, AllByRecursion, cases_lt, act-within, act-unique, IsSafeFrom, IsLastIn, IsSubsequence, HasCover, ByFlushAndFence, ByOneClflush, HasGrounds, Tells, Itself, Completes, Covers, FirstFlush, FirstFence, IsRangeOf, IsAssertion, Speaks, IsInSlice, TheAssertion, OfStore, IsSlice, SliceJudges, verdict_in}
 use Rattle.pmt_slices.proofs.CuttingLemmas.{kept-event}
 use Rattle.pmt_slices.proofs.VerdictLemmas.{last-by_now, persist_stays, ordered_stays}
 use Rattle.pmt_slices.proofs.TellLemmas.{IsFirstCompletion, AFence, AClflush, first-completion, first-flush}

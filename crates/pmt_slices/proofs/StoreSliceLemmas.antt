@@ -1,14 +1,7 @@
 -- The slice of a store that is never persisted, or late.
-use Rattle.std.proofs.Common.{◌≡◌, ◌≢◌, ℕ, zero, suc, ◌<◌, ◌≤◌, ◌⊎◌, inl, inr, Bool, true, false, List, length, refl, sym, ap, subst, ◌∙◌, arith}
-use Rattle.std.specs.Prelude.{◌↔◌}
-use Rattle.std.proofs.lemmas.Bool.{cases_eq, cases_lt, false≢true}
-use Rattle.std.proofs.lemmas.Option.{same_Some}
-use Rattle.pmt_explain.specs.Prelude.{Layout, Written, Op, Store, Clwb, ClflushOpt, Clflush, Sfence, Mfence, IsPersist, IsOrderedBefore, Act, Stores, Flushes, Clflushes, Fences, Asserts, Recording, IsAct, act_of, IsRising, Has, cut, matching_place, IsSafe, AllByRecursion, Cause, IsCause}
-use Rattle.pmt_laws.proofs.Histories.{act-unique, act-within, history-step}
-use Rattle.pmt_safety.proofs.SafetyLemmas.{safe-later as safe_store-later}
-use Rattle.pmt_explain.specs.Following.{IsFirst, IsFenceAfter, past_of}
+use Rattle.pmt_slices.proofs.Prelude.{◌≡◌, ◌≢◌, ℕ, zero, suc, ◌<◌, ◌≤◌, ◌⊎◌, inl, inr, Bool, true, false, List, length, refl, sym, ap, subst, ◌∙◌, arith, ◌↔◌, cases_eq, cases_lt, false≢true, same_Some, Layout, Written, Op, Store, Sfence, Mfence, Act, Stores, Fences, Recording, IsAct, act_of, IsRising, Has, cut, matching_place, IsSafe, AllByRecursion, Cause, IsCause, act-unique, act-within, history-step, safe_store-later, IsFirst, IsFenceAfter, past_of, IsSubsequence, Tells, cause_in, IsChosen, Chooses, IsOfStore, IsStoreBy, line_in, IsLateStore, IsLostOrLate, IsLate, IsEarlyFence, IsInStoreSlice, OfStore, OwnFence, IsStoreSlice, StoreSliceTells, is_fence, IsFate, IsOfFate}
 use Rattle.pmt_slices.specs.declared.store_slicing.Fate.{Fate}
-use Rattle.pmt_slices.specs.Slices.{IsSubsequence, Tells, cause_in, IsChosen, Chooses, IsOfStore, IsStoreBy, line_in, IsLateStore, IsLostOrLate, IsLost, IsLate, IsEarlyFence, IsInStoreSlice, OfStore, OwnFence, IsStoreSlice, StoreSliceTells, is_fence, IsFate, IsOfFate}
+use Rattle.pmt_slices.specs.Slices.{IsLost}
 use Rattle.pmt_slices.proofs.CuttingLemmas.{kept-act, act-origin, placed-later, later-origin}
 use Rattle.pmt_slices.proofs.TellLemmas.{completed-is_safe}
 use Rattle.pmt_slices.proofs.SliceLemmas.{tells-within, tells-some, all-has}
@@ -34,25 +27,15 @@ stays-safe T l p q j w is by safe = safe_store-later T l p q j by safe
 -- ---- Fences
 
 fence-act : (f : Layout) (t : ℕ) (op : Op) → is_fence op ≡ true → act_of f t op ≡ Fences t
-fence-act f t (Store w) e = absurd (false≢true e)
-fence-act f t (Clwb a) e = absurd (false≢true e)
-fence-act f t (ClflushOpt a) e = absurd (false≢true e)
-fence-act f t (Clflush a) e = absurd (false≢true e)
 fence-act f t Sfence e = refl
 fence-act f t Mfence e = refl
-fence-act f t (IsPersist r) e = absurd (false≢true e)
-fence-act f t (IsOrderedBefore r q) e = absurd (false≢true e)
+fence-act f t op e = absurd (false≢true e)
 
 -- an event that is no fence by the thread
 other-act : (f : Layout) (u t : ℕ) (op : Op) → (u ≡ t → is_fence op ≡ false) → act_of f u op ≢ Fences t
-other-act f u t (Store w) other e = cc
-other-act f u t (Clwb a) other e = cc
-other-act f u t (ClflushOpt a) other e = cc
-other-act f u t (Clflush a) other e = cc
 other-act f u t Sfence other e = let same : u ≡ t = cc in false≢true (sym (other same))
 other-act f u t Mfence other e = let same : u ≡ t = cc in false≢true (sym (other same))
-other-act f u t (IsPersist r) other e = cc
-other-act f u t (IsOrderedBefore r q) other e = cc
+other-act f u t op other e = cc
 
 -- No fence of thread t stands after event j up to place n.
 abbrev pub NoFence : Recording → ℕ → ℕ → ℕ → Type 0
@@ -211,14 +194,11 @@ fence-dec T t (suc n) = elim (history-step T n) [
 ]
   where
     go : (a : Act) → IsAct T (suc n) a → IsAct T (suc n) (Fences t) ⊎ (IsAct T (suc n) (Fences t) → ⊥)
-    go (Stores k w) is = inr (λ f. let e = act-unique T (suc n) (Stores k w) (Fences t) is f in cc)
-    go (Flushes u k) is = inr (λ f. let e = act-unique T (suc n) (Flushes u k) (Fences t) is f in cc)
-    go (Clflushes k) is = inr (λ f. let e = act-unique T (suc n) (Clflushes k) (Fences t) is f in cc)
     go (Fences u) is = elim (cases_eq u t) [
       | inl same ↦ inl (subst (λ v. IsAct T (suc n) (Fences v)) same is)
       | inr apart ↦ inr (λ f. let e = act-unique T (suc n) (Fences u) (Fences t) is f in let same : u ≡ t = cc in apart same)
     ]
-    go Asserts is = inr (λ f. let e = act-unique T (suc n) Asserts (Fences t) is f in cc)
+    go a is = inr (λ f. let e = act-unique T (suc n) a (Fences t) is f in cc)
 
 -- Event f is the first fence of thread t after event j.
 record IsFirstBy (T : Recording) (t j f : ℕ) : Type 0 where

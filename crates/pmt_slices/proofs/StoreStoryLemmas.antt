@@ -1,18 +1,10 @@
 -- The story of a store.
-use Rattle.std.proofs.Common.{◌≡◌, ◌≢◌, ℕ, zero, suc, ◌<◌, ◌≤◌, ◌⊎◌, inl, inr, Bool, List, [], ◌∷◌, length, Some, refl, sym, subst, ◌∙◌, arith}
-use Rattle.std.specs.Prelude.{◌↔◌, slice_get}
-use Rattle.std.proofs.lemmas.Bool.{cases_lt}
-use Rattle.std.proofs.lemmas.Option.{same_Some, slice_get_within}
-use Rattle.pmt_explain.specs.Prelude.{Written, Event, Stores, Flushes, Clflushes, Fences, Recording, IsAct, act, event, IsRising, Has, IsFlushOf, ByFlush, ByClflush, IsSafe, IsFirstFenceAt}
-use Rattle.pmt_laws.proofs.Histories.{act-within, act-unique}
-use Rattle.pmt_safety.specs.Safety.{IsSafeFrom}
-use Rattle.pmt_explain.specs.Following.{past_of}
+use Rattle.pmt_slices.proofs.Prelude.{◌≡◌, ◌≢◌, ℕ, zero, suc, ◌<◌, ◌≤◌, ◌⊎◌, inl, inr, Bool, List, [], ◌∷◌, length, Some, refl, sym, subst, ◌∙◌, arith, ◌↔◌, slice_get, cases_lt, same_Some, slice_get_within, Written, Event, Stores, Flushes, Clflushes, Fences, Recording, IsAct, act, event, IsRising, Has, IsFlushOf, ByFlush, ByClflush, IsSafe, IsFirstFenceAt, act-within, act-unique, IsSafeFrom, past_of, IsFirstFlush, IsFirstFlushBy, Tells, Covers, FirstFence, IsChosen, IsCompletion, OfFence, OfClflush, Chooses, IsOfStore, TheStore, TheFlush, TheCompletion, TheCover, TheFence, IsStoreBy, line_in, IsFate, turn_of, IsTurn, IsOther, AreOthers, IsOfOthers, IsOfStory, IsNextFence, IsStorePart, IsStoreTold, IsInStoreStory, OfOthers, IsStoreStory}
 use Rattle.pmt_slices.specs.declared.store_story.StorePart.TheVariants as part
 use Rattle.pmt_slices.specs.declared.store_story.StoreStory.{StoreStory}
 use Rattle.pmt_slices.specs.declared.store_story.Turn.{Turn}
 use Rattle.pmt_slices.specs.declared.store_story.Turn.TheVariants as turn
-use Rattle.pmt_slices.specs.Slices.{IsFirstFlush, IsFirstFlushBy, Tells, Covers, FirstFence, IsChosen, IsCompletion, OfFence, OfClflush, Chooses, IsOfStore, TheStore, TheFlush, TheCompletion, TheCover, TheFence, IsStoreBy, line_in, IsFate}
-use Rattle.pmt_slices.specs.Stories.{turn_of, IsTurn, IsOther, AreOthers, IsOfOthers, IsOfStory, IsNextFence, IsStorePart, IsStoreTold, IsInStoreStory, OfStore, OwnFence, OfOthers, IsStoreStory}
+use Rattle.pmt_slices.specs.Stories.{OfStore, OwnFence}
 use Rattle.pmt_slices.proofs.SliceLemmas.{tells-within, tells-some}
 use Rattle.pmt_slices.proofs.ComingLemmas.{tells-coming, coming-tells, told-safe, saved-at, flushed-at}
 use Rattle.pmt_slices.proofs.ChosenLemmas.{chosen-within}

@@ -1,16 +1,9 @@
 -- The story of a failed assertion.
-use Rattle.std.proofs.Common.{◌≡◌, ◌≢◌, ℕ, suc, ◌<◌, ◌≤◌, inl, inr, Bool, List, length, Option, None, Some, false, true≢false, refl, sym, ap, subst, ◌∙◌, arith}
-use Rattle.std.specs.Prelude.{◌↔◌, MatchOption, nat_eq}
-use Rattle.std.proofs.lemmas.Bool.{eq-eqb}
-use Rattle.std.proofs.lemmas.Option.{same_Some}
-use Rattle.pmt_explain.specs.Prelude.{Written, Span, Event, Op, Store, Clwb, ClflushOpt, Clflush, Sfence, Mfence, IsPersist, IsOrderedBefore, Stores, Flushes, Fences, Recording, IsAct, event, IsRising, Has, option_eq, option_map, ByteStore, Failure, IsFirstFenceAt, IsLastIn, IsFailureOf, IsFailureAt}
-use Rattle.pmt_laws.proofs.Histories.{act-unique, act-within}
-use Rattle.pmt_laws.proofs.OverwrittenLemmas.{last_store_number-is}
-use Rattle.pmt_safety.specs.Safety.{IsSafeFrom}
+use Rattle.pmt_slices.proofs.Prelude.{◌≡◌, ◌≢◌, ℕ, suc, ◌<◌, ◌≤◌, inl, inr, Bool, List, length, Option, None, Some, false, true≢false, refl, sym, ap, subst, ◌∙◌, arith, ◌↔◌, MatchOption, nat_eq, eq-eqb, same_Some, Written, Span, Event, Op, IsPersist, IsOrderedBefore, Stores, Flushes, Fences, Recording, IsAct, event, IsRising, Has, option_eq, option_map, ByteStore, Failure, IsFirstFenceAt, IsFailureOf, IsFailureAt, act-unique, act-within, last_store_number-is, IsSafeFrom, IsFirstFlush, IsFirstFlushBy, Tells, Itself, IsRangeOf, IsSlice, TheAsserted, OfStore, IsChosen, IsCompletion, OfFence, OfClflush, IsComing, Chooses, IsOfStore, TheStore, TheFlush, TheCompletion, TheCover, TheFence, IsOfFailure, IsPart, IsTold, IsInStory, TheKept, OfLost, IsStory, StoryTells}
+use Rattle.pmt_explain.specs.Prelude.{IsLastIn}
 use Rattle.pmt_slices.specs.declared.story.StoryPart.TheVariants.{Kept, Saves, Flush, Cover, Fence}
 use Rattle.pmt_slices.specs.declared.story.Story.{Story}
-use Rattle.pmt_slices.specs.Slices.{IsFirstFlush, IsFirstFlushBy, Tells, Itself, IsRangeOf, IsSlice, TheAssertion as TheAsserted, OfStore, IsChosen, IsCompletion, OfFence, OfClflush, IsComing, Chooses, IsOfStore, TheStore, TheFlush, TheCompletion, TheCover, TheFence, IsOfFailure}
-use Rattle.pmt_slices.specs.Stories.{IsPart, IsTold, IsInStory, TheAssertion, TheKept, OfLost, IsStory, StoryTells}
+use Rattle.pmt_slices.specs.Stories.{TheAssertion}
 use Rattle.pmt_slices.proofs.TellLemmas.{completed-is_safe}
 use Rattle.pmt_slices.proofs.SliceLemmas.{tells-within, tells-some, persist-range, first-range, second-range}
 use Rattle.pmt_slices.proofs.ComingLemmas.{tells-coming, coming-tells, told-safe, saved-at, flushed-at}
@@ -162,12 +155,6 @@ failure-ranges : (T : Recording) (n : ℕ) (f : Failure) → IsFailureAt T n (So
 failure-ranges T n f fails = go (event T n) refl fails
   where
     of-op : (e : Event) → event T n ≡ Some e → (op : Op) → e.op ≡ op → IsFailureOf T n op (Some f) → IsOfRanges T n f
-    of-op e is (Store w) op it = cc
-    of-op e is (Clwb a) op it = cc
-    of-op e is (ClflushOpt a) op it = cc
-    of-op e is (Clflush a) op it = cc
-    of-op e is Sfence op it = cc
-    of-op e is Mfence op it = cc
     of-op e is (IsPersist A) op it = record { range = A; is_range = persist-range T n e A is op; lost = it.lost.is_last; kept = λ y at. let none = it.kept in cc }
     of-op e is (IsOrderedBefore A B) op it = record {
       range = A;
@@ -175,6 +162,7 @@ failure-ranges T n f fails = go (event T n) refl fails
       lost = it.lost.is_last;
       kept = λ y at. (B, second-range T n e A B is op, subst (IsLastIn T n B) (same_Some it.kept y (sym it.is_kept ∙ at)) it.is_last);
     }
+    of-op e is other op it = cc
 
     go : (o : Option Event) → event T n ≡ o → MatchOption o (Some f ≡ None) (λ e. IsFailureOf T n e.op (Some f)) → IsOfRanges T n f
     go None none it = cc

@@ -1,64 +1,15 @@
 -- Bytes that no store writes, going back event by event.
-use Rattle.std.proofs.Common.{◌≡◌, ◌≢◌, ℕ, suc, ◌+◌, ◌-◌, ◌/◌, ◌<◌, ◌≤◌, ◌⊎◌, inl, inr, ◌==◌, ◌&&◌, Bool, true, false, max, min, List, length, refl, sym, ap, subst, ◌∙◌, eqb-true, true≢false, arith}
-use Rattle.std.specs.Prelude.{◌||◌, nat_le, nat_lt, IsTrue}
-use Rattle.std.proofs.lemmas.Bool.{cases_lt, and_parts, leb-true, ltb-true, le-leb, lt-ltb, and_from}
-use Rattle.std.proofs.lemmas.List.{append-nil, drop_all, take_all}
-use Rattle.pmt_laws.specs.Prelude.{Layout, Written, Span, IsStore, line_of, IsFormat, is_line_size, Stores, writes, Op, Store, Clwb, ClflushOpt, Clflush, Sfence, Mfence, IsPersist, IsOrderedBefore, Recording, IsAct, act_of, InSpan, refill}
-use Rattle.pmt_laws.proofs.Histories.{act-unique}
-use Rattle.pmt_laws.proofs.OverwrittenLemmas.{last_store_number-from, last_store_number-is}
-use Rattle.pmt_safety.specs.Safety.{IsLastIn}
-use Rattle.pmt_slices.specs.declared.unwritten.Unwritten.{Unwritten}
-use Rattle.pmt_slices.specs.Slices.{IsUnwritten, AreUnwritten, is_free, TakesBytes, TakesStore}
-
--- a line has a multiple of 8 bytes
-pub data IsSize (size : ℕ) : Type 0 where
-  Bytes32 : size ≡ 32 → IsSize size
-  Bytes64 : size ≡ 64 → IsSize size
-  Bytes128 : size ≡ 128 → IsSize size
-  Bytes256 : size ≡ 256 → IsSize size
-
-second-size : (size : ℕ) → IsTrue (is_line_size size) → IsSize size
-second-size size h = go (size == 32) (size == 64) (size == 128) (size == 256) refl refl refl refl h
-  where
-    go : (a b c d : Bool) → (size == 32) ≡ a → (size == 64) ≡ b → (size == 128) ≡ c → (size == 256) ≡ d → IsTrue (a || b || c || d) → IsSize size
-    go true b c d p q r s h = Bytes32 (eqb-true size 32 p)
-    go false true c d p q r s h = Bytes64 (eqb-true size 64 q)
-    go false false true d p q r s h = Bytes128 (eqb-true size 128 r)
-    go false false false true p q r s h = Bytes256 (eqb-true size 256 s)
-    go false false false false p q r s h = absurd (true≢false (sym h))
-
-pub size-of_format : (f : Layout) → IsFormat f → IsSize f.line_size
-size-of_format f h = go (f.version == 1) (f.line_size == 64) (f.version == 2) refl h
-  where
-    go : (a b c : Bool) → (f.line_size == 64) ≡ b → IsTrue ((a && b) || (c && is_line_size f.line_size)) → IsSize f.line_size
-    go true true c e h = Bytes64 (eqb-true f.line_size 64 e)
-    go true false true e h = second-size f.line_size h
-    go true false false e h = absurd (true≢false (sym h))
-    go false b true e h = second-size f.line_size h
-    go false b false e h = absurd (true≢false (sym h))
-
-word-line : (size a b : ℕ) → IsSize size → a / 8 ≡ b / 8 → a / size ≡ b / size
-word-line size a b (Bytes32 e) h = rw e (omega (arith, h))
-word-line size a b (Bytes64 e) h = rw e (omega (arith, h))
-word-line size a b (Bytes128 e) h = rw e (omega (arith, h))
-word-line size a b (Bytes256 e) h = rw e (omega (arith, h))
+use Rattle.pmt_slices.proofs.Prelude.{◌≡◌, ◌≢◌, ℕ, suc, ◌+◌, ◌-◌, ◌<◌, ◌≤◌, ◌⊎◌, inl, inr, Bool, true, false, max, min, List, length, refl, sym, ap, subst, ◌∙◌, true≢false, arith, nat_le, nat_lt, cases_lt, le-leb, lt-ltb, and_from, append-nil, drop_all, take_all, Layout, Written, Span, IsStore, line_of, IsFormat, Stores, writes, Op, Store, Recording, IsAct, act_of, InSpan, refill, act-unique, last_store_number-from, last_store_number-is, IsLastIn, Unwritten, IsUnwritten, AreUnwritten, is_free, TakesBytes, TakesStore, size-of_format, same-line, byte-from_writes}
 
 -- a store writes the bytes from its address on
-pub writes-from : (w : Written) (b : ℕ) → writes w b ≡ true → (w.addr ≤ b) × (b < w.addr + length w.bytes)
-writes-from w b h =
-    let both = and_parts (nat_le w.addr b) (nat_lt (b - w.addr) (length w.bytes)) h in
-    let above = leb-true w.addr b both.0 in
-    let below = ltb-true (b - w.addr) (length w.bytes) both.1 in
-    (above, omega (arith, above, below))
-
 pub from-writes : (w : Written) (b : ℕ) → w.addr ≤ b → b < w.addr + length w.bytes → writes w b ≡ true
 from-writes w b above below = and_from (nat_le w.addr b) (nat_lt (b - w.addr) (length w.bytes)) (le-leb w.addr b above) (lt-ltb (b - w.addr) (length w.bytes) (omega arith))
 
 -- they are all of its line
 pub byte-line : (f : Layout) (w : Written) (b : ℕ) → IsFormat f → IsStore w → writes w b ≡ true → line_of f b ≡ line_of f w.addr
 byte-line f w b format store h =
-    let at = writes-from w b h in
-    word-line f.line_size b w.addr (size-of_format f format) (omega (arith, store.inside, at.0, at.1))
+    let at = byte-from_writes w b h in
+    same-line f b w.addr (size-of_format f format) (omega (arith, store.inside, at.0, at.1))
 
 -- which is that of the act
 pub store-line : (T : Recording) (n l : ℕ) (w : Written) → IsAct T n (Stores l w) → line_of T.format w.addr ≡ l
@@ -66,13 +17,7 @@ store-line T n l w (e, at, is) = go e.op is
   where
     go : (op : Op) → act_of T.format e.thread op ≡ Stores l w → line_of T.format w.addr ≡ l
     go (Store v) is = let what : v ≡ w = cc in let line : line_of T.format v.addr ≡ l = cc in subst (λ x. line_of T.format x.addr ≡ l) what line
-    go (Clwb a) is = cc
-    go (ClflushOpt a) is = cc
-    go (Clflush a) is = cc
-    go Sfence is = cc
-    go Mfence is = cc
-    go (IsPersist r) is = cc
-    go (IsOrderedBefore r q) is = cc
+    go other is = cc
 
 -- a byte of the range is one of the list
 byte-at : (A : Span) (b : ℕ) → InSpan A b → (k : ℕ) × (k < A.len) × (A.addr + k ≡ b)
@@ -180,8 +125,8 @@ refill-all n xs ws size same = rw (drop_all (length ws) xs (omega arith), append
 -- the places of the bytes that a store writes, among those of a range
 pub taken-there : (w : Written) (low len high from to k : ℕ) → high ≤ low + len → (low + len ≤ high) ⊎ (w.addr + length w.bytes ≤ high) → from ≡ max w.addr low - low → to ≡ max (min (w.addr + length w.bytes) high) low - low →
     k < len → writes w (low + k) ≡ true → (from ≤ k) × (k < to)
-taken-there w low len high from to k most (inl all) first last fits own = let at = writes-from w (low + k) own in (omega (arith, at.0), omega (arith, at.1))
-taken-there w low len high from to k most (inr past) first last fits own = let at = writes-from w (low + k) own in (omega (arith, at.0), omega (arith, at.1))
+taken-there w low len high from to k most (inl all) first last fits own = let at = byte-from_writes w (low + k) own in (omega (arith, at.0), omega (arith, at.1))
+taken-there w low len high from to k most (inr past) first last fits own = let at = byte-from_writes w (low + k) own in (omega (arith, at.0), omega (arith, at.1))
 
 pub taken-back : (w : Written) (low high from to k : ℕ) → from ≡ max w.addr low - low → to ≡ max (min (w.addr + length w.bytes) high) low - low → from ≤ k → k < to → writes w (low + k) ≡ true
 taken-back w low high from to k first last above below = from-writes w (low + k) (omega arith) (omega arith)

@@ -1,13 +1,6 @@
 -- Where a store is safe first, and what completes a flush there.
-use Rattle.std.proofs.Common.{◌≡◌, ℕ, zero, suc, ◌<◌, ◌≤◌, ◌⊎◌, inl, inr, subst, subst₂, arith}
-use Rattle.std.specs.Prelude.{◌↔◌}
-use Rattle.std.proofs.lemmas.Bool.{cases_lt, cases_eq}
-use Rattle.pmt_laws.specs.Prelude.{Written, Act, Stores, Flushes, Clflushes, Fences, Asserts, Recording, IsAct, IsSafe}
-use Rattle.pmt_laws.proofs.Histories.{act-unique, act-within, history-step}
-use Rattle.pmt_safety.specs.Safety.{IsSafeFrom}
-use Rattle.pmt_safety.proofs.SafetyLemmas.{safe-up_to}
-use Rattle.pmt_explain.specs.Following.{ByFence, ByItself, IsCompletedAfter}
-use Rattle.pmt_slices.specs.Slices.{IsFirstFlushBy}
+use Rattle.pmt_slices.proofs.Prelude.{◌≡◌, ℕ, zero, suc, ◌<◌, ◌≤◌, ◌⊎◌, inl, inr, subst, arith, ◌↔◌, cases_lt, Written, Stores, Flushes, Clflushes, Fences, Recording, IsAct, IsSafe, IsSafeFrom, safe-up_to, ByFence, ByItself, IsCompletedAfter, IsFirstFlushBy}
+use Rattle.pmt_reasons.proofs.CauseLaws.{flush-dec}
 use Rattle.pmt_slices.proofs.CoverLemmas.{completed-safe}
 
 -- a store is safe exactly where a flush of its line after it is complete
@@ -39,34 +32,13 @@ first-completion T l j p w is from = go ((completed-is_safe T l j p w is).1 from
       | inr here ↦ let e : i ≡ p = omega arith in AClflush (subst (λ k. IsAct T k (Clflushes l)) e flush) (omega arith)
     ]
 
--- an event is a flush of the line by the thread, or is not
-flush-dec : (T : Recording) (t l n : ℕ) → IsAct T n (Flushes t l) ⊎ (IsAct T n (Flushes t l) → ⊥)
-flush-dec T t l zero = inr (λ is. absurd (omega (arith, (act-within T 0 (Flushes t l) is).0)))
-flush-dec T t l (suc n) = elim (history-step T n) [
-  | inl x ↦ go x.0 x.1
-  | inr x ↦ inr (λ is. absurd (omega (arith, x.0, (act-within T (suc n) (Flushes t l) is).1)))
-]
-  where
-    go : (a : Act) → IsAct T (suc n) a → IsAct T (suc n) (Flushes t l) ⊎ (IsAct T (suc n) (Flushes t l) → ⊥)
-    go (Stores k w) is = inr (λ f. let e = act-unique T (suc n) (Stores k w) (Flushes t l) is f in cc)
-    go (Flushes u k) is = elim (cases_eq u t) [
-      | inl thread ↦ elim (cases_eq k l) [
-        | inl line ↦ inl (subst₂ (λ v j. IsAct T (suc n) (Flushes v j)) thread line is)
-        | inr apart ↦ inr (λ f. let e = act-unique T (suc n) (Flushes u k) (Flushes t l) is f in let same : k ≡ l = cc in apart same)
-      ]
-      | inr apart ↦ inr (λ f. let e = act-unique T (suc n) (Flushes u k) (Flushes t l) is f in let same : u ≡ t = cc in apart same)
-    ]
-    go (Clflushes k) is = inr (λ f. let e = act-unique T (suc n) (Clflushes k) (Flushes t l) is f in cc)
-    go (Fences u) is = inr (λ f. let e = act-unique T (suc n) (Fences u) (Flushes t l) is f in cc)
-    go Asserts is = inr (λ f. let e = act-unique T (suc n) Asserts (Flushes t l) is f in cc)
-
 -- the first flush of a line by a thread, up to a place, if there is one
 first-flush-or : (T : Recording) (t l j n : ℕ) → ((f : ℕ) × (f ≤ n) × IsFirstFlushBy T t l j f) ⊎ ((k : ℕ) → j < k → k ≤ n → ¬ IsAct T k (Flushes t l))
 first-flush-or T t l j zero = inr (λ k after by is. absurd (omega arith))
 first-flush-or T t l j (suc n) = elim (first-flush-or T t l j n) [
   | inl x ↦ inl (x.0, omega (arith, x.1), x.2)
   | inr none ↦ elim (cases_lt j (suc n)) [
-    | inl after ↦ elim (flush-dec T t l (suc n)) [
+    | inl after ↦ elim (flush-dec T t l n) [
       | inl here ↦ inl (suc n, omega arith, record { is_flush = here; after = after; first = λ k later before. none k later (omega arith) })
       | inr other ↦ inr (λ k later by. elim (cases_lt k (suc n)) [
         | inl sooner ↦ none k later (omega arith)

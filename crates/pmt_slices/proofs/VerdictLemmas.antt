@@ -1,13 +1,6 @@
 -- Verdicts in a trace and in the trace cut to a subsequence.
-use Rattle.std.proofs.Common.{◌≡◌, ℕ, ◌≤◌, inl, inr, List, Some, ap, subst, arith}
-use Rattle.std.specs.Prelude.{◌↔◌}
-use Rattle.pmt_laws.specs.Prelude.{Span, Stores, Recording, IsAct, history, last_store_number, InSpan, PersistPasses, OrderedPasses, Has, cut, matching_place}
-use Rattle.pmt_laws.proofs.Histories.{act-unique}
-use Rattle.pmt_laws.proofs.CutLemmas.{place-mono}
-use Rattle.pmt_laws.proofs.OverwrittenLemmas.{last_store_number-is}
-use Rattle.pmt_safety.specs.Safety.{safe_store_at, IsLastIn}
+use Rattle.pmt_slices.proofs.Prelude.{◌≡◌, ℕ, ◌≤◌, inl, inr, List, Some, ap, subst, arith, ◌↔◌, Span, Stores, Recording, IsAct, history, last_store_number, InSpan, PersistPasses, OrderedPasses, Has, cut, matching_place, act-unique, place-mono, last_store_number-is, safe_store_at, IsLastIn, IsSubsequence, HasLastStores, HasGrounds, VerdictBySelection}
 use Rattle.pmt_safety.proofs.VerdictLemmas.{persist_by_stores, ordered_by_stores}
-use Rattle.pmt_slices.specs.Slices.{IsSubsequence, HasLastStores, HasGrounds, VerdictBySelection}
 use Rattle.pmt_slices.proofs.CuttingLemmas.{kept-act, placed-by, last-kept, last-from}
 use Rattle.pmt_slices.proofs.CoverLemmas.{safe-stays}
 

@@ -1,6 +1,4 @@
-use Rattle.std.proofs.Common.{◌≡◌, ◌+◌, suc, sym, ap, subst, ◌∙◌, arith}
-use Rattle.pmt_model.specs.Values.{Span, line_of}
-use Rattle.pmt_slices.specs.Slices.{IsComing, IsScan}
+use Rattle.pmt_slices.proofs.Prelude.{◌≡◌, ◌+◌, suc, sym, ap, subst, ◌∙◌, arith, Span, line_of, IsComing, IsScan}
 use Rattle.pmt_slices.proofs.ScanLemmas.{byte-span, byte-inside, byte-of}
 use Rattle.pmt_slices.proofs.after.coming_after.Goals as goal
 

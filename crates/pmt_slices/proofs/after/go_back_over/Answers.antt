@@ -1,5 +1,4 @@
-use Rattle.std.proofs.Common.{◌≡◌, suc, sym, ap, ◌∙◌}
-use Rattle.pmt_laws.specs.Prelude.{Flushes, Clflushes, Fences, Asserts, IsAct, act_of}
+use Rattle.pmt_slices.proofs.Prelude.{◌≡◌, suc, sym, ap, ◌∙◌, Flushes, Clflushes, Fences, Asserts, IsAct, act_of}
 use Rattle.pmt_slices.proofs.ScanLemmas.{scan-over, scan-store}
 use Rattle.pmt_slices.proofs.after.go_back_over.Goals as goal
 

@@ -1,7 +1,4 @@
-use Rattle.std.proofs.Common.{◌≡◌, ◌-◌, ◌<◌, suc, length, ap, subst, arith}
-use Rattle.std.proofs.lemmas.Grind.{elements}
-use Rattle.pmt_explain.proofs.FollowingLemmas.{event-at}
-use Rattle.pmt_slices.specs.Slices.{IsScan}
+use Rattle.pmt_slices.proofs.Prelude.{◌≡◌, ◌-◌, ◌<◌, suc, length, ap, subst, arith, elements, event-at, IsScan}
 use Rattle.pmt_slices.proofs.after.go_back_to.Goals as goal
 
 pub loop-index-preserved : goal.loop-index-preserved

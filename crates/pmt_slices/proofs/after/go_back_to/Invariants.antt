@@ -1,6 +1,4 @@
-use Rattle.std.proofs.Common.{◌≤◌, suc}
-use Rattle.pmt_model.specs.Values.{Span}
-use Rattle.pmt_slices.specs.Slices.{IsScan}
+use Rattle.pmt_slices.proofs.Prelude.{◌≤◌, suc, Span, IsScan}
 use Rattle.pmt_slices.proofs.after.go_back_to.Given as goal
 
 abbrev pub invariant-loop-index : goal.invariant-loop-index

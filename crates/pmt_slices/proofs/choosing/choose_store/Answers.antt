@@ -1,5 +1,4 @@
-use Rattle.std.proofs.Common.{arith}
-use Rattle.std.proofs.lemmas.Grind.{elements}
+use Rattle.pmt_slices.proofs.Prelude.{arith, elements}
 use Rattle.pmt_slices.proofs.choosing.choose_store.Goals as goal
 
 pub returns-then-coming-chosen-2 : goal.returns-then-coming-chosen-2

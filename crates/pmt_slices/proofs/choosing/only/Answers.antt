@@ -1,5 +1,4 @@
-use Rattle.std.proofs.Common.{arith}
-use Rattle.std.proofs.lemmas.Grind.{common_steps, elements}
+use Rattle.pmt_slices.proofs.Prelude.{arith, common_steps, elements}
 use Rattle.pmt_slices.proofs.choosing.only.Goals as goal
 
 pub returns-clause-size : goal.returns-clause-size

@@ -1,5 +1,4 @@
-use Rattle.std.proofs.Common.{arith}
-use Rattle.std.proofs.lemmas.Grind.{moves}
+use Rattle.pmt_slices.proofs.Prelude.{arith, moves}
 use Rattle.pmt_slices.proofs.cutting.sliced.Goals as goal
 
 pub cut_to-requires-clause-assertion : goal.cut_to-requires-clause-assertion

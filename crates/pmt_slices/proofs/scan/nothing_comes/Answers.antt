@@ -1,5 +1,4 @@
-use Rattle.std.proofs.Common.{arith}
-use Rattle.std.proofs.lemmas.Grind.{elements}
+use Rattle.pmt_slices.proofs.Prelude.{arith, elements}
 use Rattle.pmt_slices.proofs.scan.nothing_comes.Goals as goal
 
 pub returns-clause-each : goal.returns-clause-each

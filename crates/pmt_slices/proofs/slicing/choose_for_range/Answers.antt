@@ -1,5 +1,4 @@
-use Rattle.std.proofs.Common.{◌≡◌, ◌+◌, suc, sym, subst, arith}
-use Rattle.pmt_slices.specs.Slices.{IsScan}
+use Rattle.pmt_slices.proofs.Prelude.{◌≡◌, ◌+◌, suc, sym, subst, arith, IsScan}
 use Rattle.pmt_slices.proofs.VerdictLemmas.{last-by_now}
 use Rattle.pmt_slices.proofs.ChosenLemmas.{chosen-none}
 use Rattle.pmt_slices.proofs.slicing.choose_for_range.Goals as goal

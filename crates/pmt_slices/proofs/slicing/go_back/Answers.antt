@@ -1,5 +1,4 @@
-use Rattle.std.proofs.Common.{◌≡◌, suc, sym, ap, ◌∙◌, arith}
-use Rattle.pmt_laws.specs.Prelude.{line_of, Stores, Flushes, Clflushes, Fences, Asserts, IsAct, act_of}
+use Rattle.pmt_slices.proofs.Prelude.{◌≡◌, suc, sym, ap, ◌∙◌, arith, line_of, Stores, Flushes, Clflushes, Fences, Asserts, IsAct, act_of}
 use Rattle.pmt_slices.proofs.ScanLemmas.{scan-over}
 use Rattle.pmt_slices.proofs.GoingLemmas.{gone-other}
 use Rattle.pmt_slices.proofs.slicing.go_back.Goals as goal

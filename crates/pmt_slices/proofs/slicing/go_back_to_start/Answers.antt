@@ -1,6 +1,4 @@
-use Rattle.std.proofs.Common.{◌≡◌, ◌-◌, ◌<◌, suc, length, ap, subst, ◌∙◌, arith}
-use Rattle.pmt_explain.proofs.FollowingLemmas.{event-at}
-use Rattle.pmt_slices.specs.Slices.{IsGoneBack}
+use Rattle.pmt_slices.proofs.Prelude.{◌≡◌, ◌-◌, ◌<◌, suc, length, ap, subst, ◌∙◌, arith, event-at, IsGoneBack}
 use Rattle.pmt_slices.proofs.slicing.go_back_to_start.Goals as goal
 
 pub loop-index-preserved : goal.loop-index-preserved

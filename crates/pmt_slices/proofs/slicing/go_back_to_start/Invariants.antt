@@ -1,6 +1,4 @@
-use Rattle.std.proofs.Common.{◌≡◌, length}
-use Rattle.pmt_model.specs.Values.{Span}
-use Rattle.pmt_slices.specs.Slices.{IsGoneBack}
+use Rattle.pmt_slices.proofs.Prelude.{◌≡◌, length, Span, IsGoneBack}
 use Rattle.pmt_slices.proofs.slicing.go_back_to_start.Given as goal
 
 abbrev pub invariant-loop-index : goal.invariant-loop-index

@@ -1,5 +1,4 @@
-use Rattle.std.proofs.Common.{subst, suc}
-use Rattle.pmt_slices.specs.Slices.{TakesStore}
+use Rattle.pmt_slices.proofs.Prelude.{subst, suc, TakesStore}
 use Rattle.pmt_slices.proofs.GoingLemmas.{gone-untaken, gone-taken, taken-meets}
 use Rattle.pmt_slices.proofs.slicing.over_store.Goals as goal
 

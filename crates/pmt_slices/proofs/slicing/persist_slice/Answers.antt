@@ -1,7 +1,4 @@
-use Rattle.std.proofs.Common.{◌≡◌, length, refl, sym, ap, subst, ◌∙◌, arith}
-use Rattle.pmt_model.specs.Traces.{act}
-use Rattle.pmt_laws.proofs.Histories.{act-within}
-use Rattle.pmt_slices.specs.Slices.{IsChosen, HasChosen}
+use Rattle.pmt_slices.proofs.Prelude.{◌≡◌, length, refl, sym, ap, subst, ◌∙◌, arith, act, act-within, IsChosen, HasChosen}
 use Rattle.pmt_slices.proofs.TakenLemmas.{refill-all}
 use Rattle.pmt_slices.proofs.ChosenLemmas.{persist-slice}
 use Rattle.pmt_slices.proofs.slicing.persist_slice.Goals as goal

@@ -1,10 +1,6 @@
-use Rattle.std.proofs.Common.{◌≡◌, ◌<◌, ◌≤◌, ◌+◌, suc, false, true, length, refl, sym, ap, subst, ◌∙◌, arith}
-use Rattle.pmt_explain.specs.Following.{IsFirst, IsFenceAfter, past_of}
-use Rattle.pmt_explain.proofs.FollowingLemmas.{event-at}
-use Rattle.pmt_slices.specs.Slices.{is_fence}
+use Rattle.pmt_slices.proofs.Prelude.{◌≡◌, ◌<◌, ◌≤◌, ◌+◌, suc, false, length, refl, sym, ap, subst, ◌∙◌, arith, IsFirst, IsFenceAfter, past_of, event-at, is_fence}
 use Rattle.pmt_slices.proofs.StoreSliceLemmas.{no-fence-more, fence-found, no-fence-found}
 use Rattle.pmt_slices.proofs.store_slicing.fence_after.Goals as goal
-use Rattle.pmt_slices.proofs.store_slicing.fence_after.Goals.{else-event-thread-via-then-event-thread+else-is_fence, else-event-thread-via-else-event-thread}
 
 pub returns-then-is_fence : goal.returns-then-is_fence
 returns-then-is_fence c =
@@ -29,8 +25,8 @@ loop-index-preserved c =
     let is = event-at T T.format es i e refl c.events-events.ensures.value inside c.index-events-index.is in
     let other : e.thread ≡ c.args.thread → is_fence e.op ≡ false = λ same.
     elim c.else-event-thread.branch [
-      | else-event-thread-via-then-event-thread+else-is_fence w ↦ sym w.is_fence.ensures ∙ w.if-is_fence.false
-      | else-event-thread-via-else-event-thread w ↦ absurd (w.if-event-thread.false same)
+      | goal.else-event-thread-via-then-event-thread+else-is_fence w ↦ sym w.is_fence.ensures ∙ w.if-is_fence.false
+      | goal.else-event-thread-via-else-event-thread w ↦ absurd (w.if-event-thread.false same)
     ] in
     record {
       low = omega (arith, c.loop-index.invariant.low);

@@ -1,8 +1,6 @@
-use Rattle.std.proofs.Common.{arith}
-use Rattle.pmt_slices.specs.Slices.{IsLostOrLate}
+use Rattle.pmt_slices.proofs.Prelude.{arith, IsLostOrLate}
 use Rattle.pmt_slices.proofs.StoreSliceLemmas.{is-lost, is-late, is-neither}
 use Rattle.pmt_slices.proofs.store_slicing.slice_if_lost.Goals as goal
-use Rattle.pmt_slices.proofs.store_slicing.slice_if_lost.Goals.{else-fate-end-via-then-fate-end+else-fate, else-fate-end-via-else-fate-end}
 
 pub returns-then-fate : goal.returns-then-fate
 returns-then-fate c =
@@ -15,7 +13,7 @@ returns c =
     let f = c.in_ok-fate.fate in
     let found : IsLostOrLate T c.args.number =
     elim c.else-fate-end.branch [
-      | else-fate-end-via-then-fate-end+else-fate w ↦ is-late T c.args.thread c.args.number c.args.store f c.requires.store c.in_ok-fate.ensures (omega (arith, w.if-fate.false))
-      | else-fate-end-via-else-fate-end w ↦ is-lost T c.args.thread c.args.number c.args.store f c.requires.store c.in_ok-fate.ensures (omega (arith, w.if-fate-end.false, c.len-end.ensures.value))
+      | goal.else-fate-end-via-then-fate-end+else-fate w ↦ is-late T c.args.thread c.args.number c.args.store f c.requires.store c.in_ok-fate.ensures (omega (arith, w.if-fate.false))
+      | goal.else-fate-end-via-else-fate-end w ↦ is-lost T c.args.thread c.args.number c.args.store f c.requires.store c.in_ok-fate.ensures (omega (arith, w.if-fate-end.false, c.len-end.ensures.value))
     ] in
     (found, c.in_ok-cut_to.ensures.0, c.in_ok-cut_to.ensures.1)

@@ -1,5 +1,4 @@
-use Rattle.std.proofs.Common.{◌≡◌, length, sym, ap, subst, ◌∙◌, arith}
-use Rattle.pmt_slices.specs.Slices.{IsChosen, Chooses, IsOfFate}
+use Rattle.pmt_slices.proofs.Prelude.{◌≡◌, length, sym, ap, subst, ◌∙◌, arith, IsChosen, Chooses, IsOfFate}
 use Rattle.pmt_slices.proofs.TakenLemmas.{refill-all}
 use Rattle.pmt_slices.proofs.StoreSliceLemmas.{slice-made}
 use Rattle.pmt_slices.proofs.store_slicing.store_slice.Goals as goal

@@ -1,5 +1,4 @@
-use Rattle.std.proofs.Common.{arith}
-use Rattle.std.proofs.lemmas.Grind.{elements}
+use Rattle.pmt_slices.proofs.Prelude.{arith, elements}
 use Rattle.pmt_slices.proofs.store_slicing.store_sliced.Goals as goal
 
 pub slice_if_lost-requires : goal.slice_if_lost-requires

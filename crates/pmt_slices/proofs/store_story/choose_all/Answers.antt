@@ -1,13 +1,7 @@
-use Rattle.std.proofs.Common.{◌≡◌, ◌+◌, ◌<◌, ◌≤◌, ◌⊎◌, suc, length, Some, sym, ap, subst, ◌∙◌, arith}
-use Rattle.std.specs.Prelude.{slice_get}
-use Rattle.std.proofs.lemmas.Option.{slice_get-get_or}
-use Rattle.pmt_model.specs.Traces.{event}
+use Rattle.pmt_slices.proofs.Prelude.{◌≡◌, ◌+◌, ◌<◌, ◌≤◌, ◌⊎◌, suc, length, Some, sym, ap, subst, ◌∙◌, arith, slice_get, slice_get-get_or, event, IsChosen, Chooses, turn_of}
 use Rattle.pmt_slices.specs.declared.store_story.Turn.TheVariants as turn
-use Rattle.pmt_slices.specs.Slices.{IsChosen, Chooses}
-use Rattle.pmt_slices.specs.Stories.{turn_of}
 use Rattle.pmt_slices.proofs.StoreStoryLemmas.{IsOtherBy, NoStop, chooses-over, stop-over, other-here, chooses-here, chooses-all, chooses-stop}
 use Rattle.pmt_slices.proofs.store_story.choose_all.Goals as goal
-use Rattle.pmt_slices.proofs.store_story.choose_all.Goals.{then-event-thread+in-Nothing, then-event-thread+in-Other, else-event-thread}
 
 pub returns-in-Stop : goal.returns-in-Stop
 returns-in-Stop c =
@@ -36,14 +30,14 @@ loop-index-preserved c =
     let place : suc i ≡ i + 1 = omega arith in
     let known = c.loop-index.invariant in
     elim c.if-event-thread.branch [
-      | then-event-thread+in-Nothing w ↦
+      | goal.then-event-thread+in-Nothing w ↦
           let what : turn_of T.format l e.op ≡ turn.Nothing = ap (λ f. turn_of f l e.op) (sym c.format-format.ensures.value) ∙ sym w.turn_of.ensures ∙ w.in-Nothing.is in
           record {
             low = omega (arith, known.low);
             none = subst (NoStop T t l j) place (stop-over T t l j i e is (λ same stop. let apart : turn.Nothing ≡ turn.Stop = sym what ∙ stop in cc) known.none);
             chosen = subst (Chooses (IsOtherBy T t l j (i + 1)) old) (sym w.chosen-is) (subst (λ m. Chooses (IsOtherBy T t l j m) old before) place (chooses-over T t l j i e old before is (λ same. what) known.chosen));
           }
-      | then-event-thread+in-Other w ↦
+      | goal.then-event-thread+in-Other w ↦
           let what : turn_of T.format l e.op ≡ turn.Other = ap (λ f. turn_of f l e.op) (sym c.format-format.ensures.value) ∙ sym w.turn_of.ensures ∙ w.in-Other.is in
           let here = other-here T t l j i e is w.if-event-thread.true what known.low known.none in
           let new = w.choose.new.chosen in
@@ -55,7 +49,7 @@ loop-index-preserved c =
                 (chooses-here T t l j i old before new here known.chosen w.choose.ensures.size w.choose.ensures.stays
                 (λ within. subst (λ m. IsChosen new m) (sym place) (w.choose.ensures.own (omega arith) (omega (arith, within)))) (λ k x. subst (λ m. IsChosen before k ⊎ (k ≡ m)) (sym place) (w.choose.ensures.just k x))));
           }
-      | else-event-thread w ↦
+      | goal.else-event-thread w ↦
           record {
             low = omega (arith, known.low);
             none = subst (NoStop T t l j) place (stop-over T t l j i e is (λ same. absurd (w.if-event-thread.false same)) known.none);

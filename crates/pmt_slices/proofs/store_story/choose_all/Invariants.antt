@@ -1,5 +1,4 @@
-use Rattle.std.proofs.Common.{◌≤◌}
-use Rattle.pmt_slices.specs.Slices.{Chooses}
+use Rattle.pmt_slices.proofs.Prelude.{◌≤◌, Chooses}
 use Rattle.pmt_slices.proofs.StoreStoryLemmas.{IsOtherBy, NoStop}
 use Rattle.pmt_slices.proofs.store_story.choose_all.Given as goal
 

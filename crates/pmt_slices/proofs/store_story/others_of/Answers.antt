@@ -1,6 +1,4 @@
-use Rattle.std.proofs.Common.{◌≡◌, length, sym, ap, subst, ◌∙◌, arith}
-use Rattle.pmt_slices.specs.Slices.{IsChosen, Chooses}
-use Rattle.pmt_slices.specs.Stories.{IsOther}
+use Rattle.pmt_slices.proofs.Prelude.{◌≡◌, length, sym, ap, subst, ◌∙◌, arith, IsChosen, Chooses, IsOther}
 use Rattle.pmt_slices.proofs.TakenLemmas.{refill-all}
 use Rattle.pmt_slices.proofs.StoreStoryLemmas.{others-made}
 use Rattle.pmt_slices.proofs.store_story.others_of.Goals as goal

@@ -1,8 +1,4 @@
-use Rattle.std.proofs.Common.{◌≡◌, length, refl, sym, ap, subst, ◌∙◌, arith}
-use Rattle.std.proofs.lemmas.Grind.{elements}
-use Rattle.pmt_model.specs.Values.{line_of}
-use Rattle.pmt_slices.specs.Slices.{IsChosen, Chooses, line_in}
-use Rattle.pmt_slices.specs.Stories.{AreOthers, IsOfStory}
+use Rattle.pmt_slices.proofs.Prelude.{◌≡◌, length, refl, sym, ap, subst, ◌∙◌, arith, elements, line_of, IsChosen, Chooses, line_in, AreOthers, IsOfStory}
 use Rattle.pmt_slices.proofs.TakenLemmas.{refill-all}
 use Rattle.pmt_slices.proofs.StoreStoryLemmas.{store-story-made}
 use Rattle.pmt_slices.proofs.store_story.story_with.Goals as goal

@@ -1,6 +1,4 @@
-use Rattle.std.proofs.Common.{◌≡◌, suc, length, refl, sym, ap, subst, ◌∙◌, arith}
-use Rattle.pmt_model.specs.Values.{line_of}
-use Rattle.pmt_slices.specs.Slices.{IsChosen, IsComing, Chooses, IsOfFailure}
+use Rattle.pmt_slices.proofs.Prelude.{◌≡◌, suc, length, refl, sym, ap, subst, ◌∙◌, arith, line_of, IsChosen, IsComing, Chooses, IsOfFailure}
 use Rattle.pmt_slices.proofs.TakenLemmas.{refill-all}
 use Rattle.pmt_slices.proofs.StoryLemmas.{story-made}
 use Rattle.pmt_slices.proofs.story.story_with.Goals as goal

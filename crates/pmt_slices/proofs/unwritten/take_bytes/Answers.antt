@@ -1,5 +1,4 @@
-use Rattle.std.proofs.Common.{arith}
-use Rattle.std.proofs.lemmas.Grind.{elements}
+use Rattle.pmt_slices.proofs.Prelude.{arith, elements}
 use Rattle.pmt_slices.proofs.unwritten.take_bytes.Goals as goal
 
 pub loop-place-preserved : goal.loop-place-preserved

@@ -1,5 +1,4 @@
-use Rattle.std.proofs.Common.{◌≡◌, ◌≤◌, ◌⊎◌}
-use Rattle.pmt_slices.specs.Slices.{TakesBytes}
+use Rattle.pmt_slices.proofs.Prelude.{◌≡◌, ◌≤◌, ◌⊎◌, TakesBytes}
 use Rattle.pmt_slices.proofs.unwritten.take_bytes.Given as goal
 
 abbrev pub invariant-loop-place : goal.invariant-loop-place

@@ -1,6 +1,4 @@
-use Rattle.std.proofs.Common.{◌∙◌, ap, sym, subst, Some}
-use Rattle.std.proofs.lemmas.Option.{slice_get-get_or}
-use Rattle.pmt_slices.specs.Slices.{IsComing}
+use Rattle.pmt_slices.proofs.Prelude.{◌∙◌, ap, sym, subst, Some, slice_get-get_or, IsComing}
 use Rattle.pmt_slices.proofs.scan.Scan.coming.Goals as goal
 
 pub returns-in-Some : goal.returns-in-Some

@@ -1,5 +1,4 @@
-use Rattle.std.proofs.Common.{◌∙◌, ap, sym, refl, Some, arith}
-use Rattle.std.proofs.lemmas.Option.{slice_get-get_or}
+use Rattle.pmt_slices.proofs.Prelude.{◌∙◌, ap, sym, refl, Some, arith, slice_get-get_or}
 use Rattle.pmt_slices.proofs.ScanLemmas.{IsOff, scan-flush, scan-flush-off}
 use Rattle.pmt_slices.proofs.scan.Scan.flush.Goals as goal
 

@@ -1,5 +1,4 @@
-use Rattle.std.proofs.Common.{refl, sym, subst}
-use Rattle.pmt_tables.specs.Slots.{IsSpanned}
+use Rattle.pmt_slices.proofs.Prelude.{refl, sym, subst, IsSpanned}
 use Rattle.pmt_slices.proofs.ScanLemmas.{scan-new, spanned-few}
 use Rattle.pmt_slices.proofs.scan.Scan.new.Goals as goal
 

@@ -1,5 +1,4 @@
-use Rattle.std.proofs.Common.{inl, inr}
-use Rattle.std.proofs.lemmas.Bool.{cases_lt, leb-true, le-leb}
+use Rattle.pmt_slices.proofs.Prelude.{inl, inr, cases_lt, leb-true, le-leb}
 use Rattle.pmt_slices.proofs.StoreStoryLemmas.{safe-told, unsafe-told}
 use Rattle.pmt_slices.proofs.store_story.StoreStory.is_safe.Goals as goal
 

@@ -1,7 +1,6 @@
 use Rattle.std.proofs.Common.{arith}
 use Rattle.pmt_slices.proofs.StoreStoryLemmas.{told-saves, told-own, told-flush, told-cover, told-fence, told-other}
 use Rattle.pmt_slices.proofs.store_story.StoreStory.part.Goals as goal
-use Rattle.pmt_slices.proofs.store_story.StoreStory.part.Goals.{else-self-coming-via-then-self-coming+else-number-self-2, else-self-coming-via-else-self-coming, else-coming-self-via-then-coming-self+else-number-coming-3, else-coming-self-via-else-coming-self, else-coming-via-then-coming+then-coming-self-2+else-number-coming-4, else-coming-via-then-coming+else-coming-self-2, else-coming-via-else-coming}
 
 pub returns-then-number-coming : goal.returns-then-number-coming
 returns-then-number-coming c = λ T n is has. told-saves T n c.args.self.now is c.args.number has c.if-number-self.false c.if-number-coming.true
@@ -21,8 +20,8 @@ pub returns-then-number-coming-4 : goal.returns-then-number-coming-4
 returns-then-number-coming-4 c = λ T n is has.
     told-fence T n c.args.self.now is c.args.number has c.if-number-self.false c.if-number-coming.false
     (λ less. elim c.else-self-coming.branch [
-      | else-self-coming-via-then-self-coming+else-number-self-2 w ↦ w.if-number-self-2.false
-      | else-self-coming-via-else-self-coming w ↦ absurd (omega (arith, w.if-self-coming.false, less))
+      | goal.else-self-coming-via-then-self-coming+else-number-self-2 w ↦ w.if-number-self-2.false
+      | goal.else-self-coming-via-else-self-coming w ↦ absurd (omega (arith, w.if-self-coming.false, less))
     ])
     c.if-number-coming-2.false c.if-coming.true c.if-coming-self-2.true c.if-number-coming-4.true
 
@@ -30,16 +29,16 @@ pub returns-else-coming : goal.returns-else-coming
 returns-else-coming c = λ T n is has.
     told-other T n c.args.self.now is c.args.number has c.if-number-self.false c.if-number-coming.false
     (λ less. elim c.else-self-coming.branch [
-      | else-self-coming-via-then-self-coming+else-number-self-2 w ↦ w.if-number-self-2.false
-      | else-self-coming-via-else-self-coming w ↦ absurd (omega (arith, w.if-self-coming.false, less))
+      | goal.else-self-coming-via-then-self-coming+else-number-self-2 w ↦ w.if-number-self-2.false
+      | goal.else-self-coming-via-else-self-coming w ↦ absurd (omega (arith, w.if-self-coming.false, less))
     ])
     c.if-number-coming-2.false
     (λ early. elim c.else-coming-self.branch [
-      | else-coming-self-via-then-coming-self+else-number-coming-3 w ↦ w.if-number-coming-3.false
-      | else-coming-self-via-else-coming-self w ↦ absurd (omega (arith, w.if-coming-self.false, early))
+      | goal.else-coming-self-via-then-coming-self+else-number-coming-3 w ↦ w.if-number-coming-3.false
+      | goal.else-coming-self-via-else-coming-self w ↦ absurd (omega (arith, w.if-coming-self.false, early))
     ])
     (λ late flushed. elim c.else-coming.branch [
-      | else-coming-via-then-coming+then-coming-self-2+else-number-coming-4 w ↦ w.if-number-coming-4.false
-      | else-coming-via-then-coming+else-coming-self-2 w ↦ absurd (omega (arith, w.if-coming-self-2.false, flushed))
-      | else-coming-via-else-coming w ↦ absurd (omega (arith, w.if-coming.false, late))
+      | goal.else-coming-via-then-coming+then-coming-self-2+else-number-coming-4 w ↦ w.if-number-coming-4.false
+      | goal.else-coming-via-then-coming+else-coming-self-2 w ↦ absurd (omega (arith, w.if-coming-self-2.false, flushed))
+      | goal.else-coming-via-else-coming w ↦ absurd (omega (arith, w.if-coming.false, late))
     ])

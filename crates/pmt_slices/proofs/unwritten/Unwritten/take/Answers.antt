@@ -1,8 +1,5 @@
-use Rattle.std.proofs.Common.{◌≡◌, ◌+◌, ◌-◌, ◌≤◌, ◌⊎◌, inl, inr, max, min, length, refl, sym, ap, subst, ◌∙◌, arith}
-use Rattle.std.proofs.lemmas.Bool.{cases_lt}
+use Rattle.pmt_slices.proofs.Prelude.{◌≡◌, ◌+◌, ◌-◌, ◌≤◌, ◌⊎◌, inl, inr, max, min, length, refl, sym, ap, subst, ◌∙◌, arith, cases_lt, Unwritten, TakesBytes}
 use Rattle.std.specs.Vec.{with_items}
-use Rattle.pmt_slices.specs.declared.unwritten.Unwritten.{Unwritten}
-use Rattle.pmt_slices.specs.Slices.{TakesBytes}
 use Rattle.pmt_slices.proofs.TakenLemmas.{takes-store, refill-all, taken-there, taken-back}
 use Rattle.pmt_slices.proofs.unwritten.Unwritten.take.Goals as goal
 
