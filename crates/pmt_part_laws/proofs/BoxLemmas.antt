@@ -1,10 +1,6 @@
 -- Counts of persisted stores that a crash may leave, in a trace and in the trace cut to a part.
-use Rattle.std.proofs.Common.{ℕ, ◌+◌, ◌≤◌, List, arith}
-use Rattle.std.specs.Prelude.{◌↔◌}
-use Rattle.pmt_laws.specs.Prelude.{Vectors, InBox, Recording, history, count_at, VectorsAt, front_at}
-use Rattle.pmt_laws.proofs.Histories.{front-mono, front-le-count}
+use Rattle.pmt_part_laws.proofs.Prelude.{ℕ, ◌+◌, ◌≤◌, List, arith, ◌↔◌, Vectors, InBox, Recording, history, count_at, VectorsAt, front_at, front-mono, front-le-count, IsPart, PartVectors}
 use Rattle.pmt_laws.proofs.BoxLemmas.{vectors_are_a_box}
-use Rattle.pmt_part_laws.specs.Parts.{IsPart, PartVectors}
 use Rattle.pmt_part_laws.proofs.StepLemmas.{part_history}
 use Rattle.pmt_part_laws.proofs.FrontLemmas.{count-part, front-part}
 

@@ -1,10 +1,7 @@
 -- The bytes that a store writes are of its line.
-use Rattle.std.proofs.Common.{◌≡◌, ℕ, zero, suc, List, [], ◌∷◌, Some, refl, true, arith, subst}
-use Rattle.std.specs.Prelude.{slice_get}
+use Rattle.pmt_part_laws.proofs.Prelude.{◌≡◌, ℕ, zero, suc, List, [], ◌∷◌, Some, refl, true, arith, subst, slice_get, Written, line_of, Stores, writes, Recording, IsTrace, IsEventIn, IsAct, AllByRecursion, IsWellFormed}
 use Rattle.std.proofs.lemmas.Option.{none-some, same_Some}
-use Rattle.pmt_laws.specs.Prelude.{Written, line_of, Stores, writes, Recording, IsTrace, IsEventIn, IsAct, AllByRecursion}
 use Rattle.pmt_tables.proofs.LineLemmas.{writes-line}
-use Rattle.pmt_part_laws.specs.Parts.{IsWellFormed}
 
 -- what holds of all holds of one
 all-at : {X : Type 0} (P : X → Type 0) (xs : List X) (i : ℕ) (x : X) → AllByRecursion P xs → slice_get xs i ≡ Some x → P x

@@ -1,12 +1,5 @@
 -- The carry at the end of a stretch, by its part.
-use Rattle.std.proofs.Common.{ℕ, inl, inr, List, arith}
-use Rattle.std.proofs.lemmas.Bool.{cases_lt}
-use Rattle.pmt_laws.specs.Prelude.{Stores, Flushes, Fences, Recording, IsAct, Has, cut, matching_place}
-use Rattle.pmt_laws.proofs.Histories.{front-mono}
-use Rattle.pmt_laws.proofs.CutLemmas.{place-mono}
-use Rattle.pmt_slices.specs.Slices.{IsSubsequence}
-use Rattle.pmt_slices.proofs.CuttingLemmas.{kept-act, act-origin, placed-later, later-origin}
-use Rattle.pmt_part_laws.specs.Parts.{IsPending, IsLastOpen, IsCarried, IsPart, PartCarries}
+use Rattle.pmt_part_laws.proofs.Prelude.{ℕ, inl, inr, List, arith, cases_lt, Stores, Flushes, Fences, Recording, IsAct, Has, cut, matching_place, front-mono, place-mono, IsSubsequence, kept-act, act-origin, placed-later, later-origin, IsPending, IsLastOpen, IsCarried, IsPart, PartCarries}
 use Rattle.pmt_part_laws.proofs.StepLemmas.{part-subsequence, has-stretch, part-by, store-kept}
 use Rattle.pmt_part_laws.proofs.FrontLemmas.{count-part, front-part}
 use Rattle.pmt_part_laws.proofs.OriginLemmas.{act-back, fence-kept, again-kept}

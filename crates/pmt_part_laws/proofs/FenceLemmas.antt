@@ -1,39 +1,16 @@
 -- Fences without flush, in a trace and in the trace cut to a part.
-use Rattle.std.proofs.Common.{◌≡◌, ℕ, zero, suc, ◌<◌, ◌≤◌, inl, inr, List, length, subst, arith}
-use Rattle.std.specs.Prelude.{◌⊎◌}
-use Rattle.std.proofs.lemmas.Bool.{cases_lt, cases_eq}
-use Rattle.pmt_laws.specs.Prelude.{Act, Stores, Flushes, Clflushes, Fences, Asserts, Recording, IsAct, history, IsEmptyFence, Has, cut, matching_place}
-use Rattle.pmt_laws.proofs.Histories.{act-unique, act-within, history-step}
-use Rattle.pmt_slices.specs.Slices.{IsSubsequence}
-use Rattle.pmt_slices.proofs.CuttingLemmas.{kept-act, act-origin, placed-later, later-origin}
-use Rattle.pmt_part_laws.specs.Parts.{IsPart, PartEmptyFence}
+use Rattle.pmt_part_laws.proofs.Prelude.{◌≡◌, ℕ, zero, suc, ◌<◌, ◌≤◌, inl, inr, List, length, subst, arith, ◌⊎◌, cases_lt, cases_eq, Act, Flushes, Fences, Recording, IsAct, history, IsEmptyFence, Has, cut, matching_place, act-unique, act-within, history-step, IsSubsequence, kept-act, act-origin, placed-later, later-origin, IsPart, PartEmptyFence}
 use Rattle.pmt_part_laws.proofs.StepLemmas.{part-subsequence, has-stretch}
 use Rattle.pmt_part_laws.proofs.OriginLemmas.{act-back, fence-kept}
+use Rattle.std.proofs.lemmas.Bool.Decides.{nat_tests}
 
 -- an act is a flush of the line by the thread, or not
 pub flush-dec : (t l : ℕ) (a : Act) → (a ≡ Flushes t l) ⊎ (a ≡ Flushes t l → ⊥)
-flush-dec t l (Stores k w) = inr (λ e. cc)
-flush-dec t l (Flushes u k) = go (cases_eq u t) (cases_eq k l)
-  where
-    go : (u ≡ t) ⊎ (u ≡ t → ⊥) → (k ≡ l) ⊎ (k ≡ l → ⊥) → (Flushes u k ≡ Flushes t l) ⊎ (Flushes u k ≡ Flushes t l → ⊥)
-    go (inl x) (inl y) = inl (cc)
-    go (inl x) (inr y) = inr (λ e. y (cc))
-    go (inr x) y = inr (λ e. x (cc))
-flush-dec t l (Clflushes k) = inr (λ e. cc)
-flush-dec t l (Fences u) = inr (λ e. cc)
-flush-dec t l Asserts = inr (λ e. cc)
+flush-dec t l a = grind (arith, nat_tests, cases_eq)
 
 -- or a fence by the thread
 pub fence-dec : (t : ℕ) (a : Act) → (a ≡ Fences t) ⊎ (a ≡ Fences t → ⊥)
-fence-dec t (Stores k w) = inr (λ e. cc)
-fence-dec t (Flushes u k) = inr (λ e. cc)
-fence-dec t (Clflushes k) = inr (λ e. cc)
-fence-dec t (Fences u) = go (cases_eq u t)
-  where
-    go : (u ≡ t) ⊎ (u ≡ t → ⊥) → (Fences u ≡ Fences t) ⊎ (Fences u ≡ Fences t → ⊥)
-    go (inl x) = inl (cc)
-    go (inr x) = inr (λ e. x (cc))
-fence-dec t Asserts = inr (λ e. cc)
+fence-dec t a = grind (arith, nat_tests, cases_eq)
 
 -- No event after event j up to event n is this act.
 abbrev pub NoneSince : Recording → Act → ℕ → ℕ → Type 0

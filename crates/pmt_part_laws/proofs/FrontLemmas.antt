@@ -1,16 +1,5 @@
 -- Counts, marks and fronts of a trace and of the trace cut to a part.
-use Rattle.std.proofs.Common.{◌≡◌, ℕ, zero, suc, ◌-◌, ◌<◌, ◌≤◌, inl, inr, Bool, true, false, ◌==◌, List, ◌∷◌, refl, sym, ap, subst, ◌∙◌, eqb-true, arith}
-use Rattle.std.specs.Prelude.{◌⊎◌, if◌then◌else◌}
-use Rattle.std.proofs.lemmas.Bool.{cases_lt}
-use Rattle.pmt_laws.specs.Prelude.{Act, Stores, Flushes, Clflushes, Fences, Asserts, count, Recording, IsAct, history, count_at, mark, front, front_at, Has, cut, matching_place}
-use Rattle.pmt_laws.proofs.Histories.{act-unique, front-mono}
-use Rattle.pmt_laws.proofs.FrontLemmas.{IsMarkOf, mark-reached, mark-greatest, completed-le_front}
-use Rattle.pmt_laws.proofs.LastFlushes.{IsLastFlush, last-flush}
-use Rattle.pmt_laws.proofs.CutLemmas.{place-mono}
-use Rattle.pmt_safety.proofs.StoreLemmas.{count-at_store}
-use Rattle.pmt_slices.specs.Slices.{IsSubsequence}
-use Rattle.pmt_slices.proofs.CuttingLemmas.{kept-act, act-origin, placed-by}
-use Rattle.pmt_part_laws.specs.Parts.{IsCarried, IsPart, PartFronts}
+use Rattle.pmt_part_laws.proofs.Prelude.{◌≡◌, ℕ, zero, suc, ◌-◌, ◌<◌, ◌≤◌, inl, inr, Bool, true, false, ◌==◌, List, ◌∷◌, refl, sym, ap, subst, ◌∙◌, eqb-true, arith, ◌⊎◌, if◌then◌else◌, cases_lt, Act, Stores, Flushes, Clflushes, Fences, count, Recording, IsAct, history, count_at, mark, front, front_at, Has, cut, matching_place, act-unique, front-mono, IsMarkOf, mark-reached, mark-greatest, completed-le_front, IsLastFlush, last-flush, place-mono, count-at_store, IsSubsequence, kept-act, act-origin, placed-by, IsCarried, IsPart, PartFronts}
 use Rattle.pmt_part_laws.proofs.StepLemmas.{part_history, part-subsequence, IsNext, Keeps, Drops, next-step, none-yet, along, onward, store-kept, kept-store}
 
 -- the part counts the stores of a line that are above the front at place q
@@ -25,10 +14,7 @@ count-part T q r K l n part within = along T q r K (λ h g. count l g ≡ count 
             let own : IsAct T (suc n) (Stores l w) = subst (λ j. IsAct T (suc n) (Stores j w)) (eqb-true k l e) is in
             omega (arith, old, kept-store T q r K l (suc n) w part has own, count-at_store T l n w own)
         at false e = old
-    keeps n (Flushes t k) by is has old = old
-    keeps n (Clflushes k) by is has old = old
-    keeps n (Fences t) by is has old = old
-    keeps n Asserts by is has old = old
+    keeps n a by is has old = old
 
     drops : (n : ℕ) (a : Act) → suc n ≤ r → IsAct T (suc n) a → ¬ Has K (suc n) → count l (part_history T K n) ≡ count_at T l n - front_at T l q → count l (part_history T K n) ≡ count l (a ∷ history T n) - front_at T l q
     drops n (Stores k w) by is dropped old = at (k == l) refl
@@ -41,10 +27,7 @@ count-part T q r K l n part within = along T q r K (λ h g. count l g ≡ count 
               | inr safe ↦ omega (arith, old, safe, count-at_store T l n w own)
             ]
         at false e = old
-    drops n (Flushes t k) by is dropped old = old
-    drops n (Clflushes k) by is dropped old = old
-    drops n (Fences t) by is dropped old = old
-    drops n Asserts by is dropped old = old
+    drops n a by is dropped old = old
 
 -- a flush of more stores than the front at place q counts, the last one of its line by its thread up to there, is carried
 pub flush-carried : (T : Recording) (q t l k : ℕ) → k ≤ q → IsAct T k (Flushes t l) → ((j : ℕ) → k < j → j ≤ q → ¬ IsAct T j (Flushes t l)) → front_at T l q < count_at T l k → IsCarried T q k
@@ -116,15 +99,13 @@ front-part T q r K l n part within = elim (cases_lt n q) [
 ]
   where
     each : (n : ℕ) (a : Act) → q ≤ n → suc n ≤ r → IsAct T (suc n) a → front l (part_history T K n) ≡ front_at T l n - front_at T l q → front l (a ∷ part_history T K n) ≡ front l (a ∷ history T n) - front_at T l q
-    each n (Stores k w) late by is old = old
-    each n (Flushes t k) late by is old = old
     each n (Clflushes k) late by is old = at (k == l)
       where
         at : (b : Bool) → (if b then count l (part_history T K n) else front l (part_history T K n)) ≡ (if b then count_at T l n else front_at T l n) - front_at T l q
         at true = count-part T q r K l n part (omega arith)
         at false = old
     each n (Fences t) late by is old = omega (arith, old, mark-part T q r K t l n part late (omega arith))
-    each n Asserts late by is old = old
+    each n a late by is old = old
 
 pub part_fronts : PartFronts
 part_fronts = record { front = front-part; count = count-part }

@@ -1,13 +1,6 @@
 -- What a crash in a stretch leaves in memory, by its part.
-use Rattle.std.proofs.Common.{◌≡◌, ℕ, zero, suc, ◌+◌, ◌-◌, ◌<◌, ◌≤◌, inl, inr, Bool, true, false, List, [], ◌∷◌, length, Some, None, refl, sym, ap, subst, ◌∙◌, arith}
-use Rattle.std.specs.Prelude.{◌↔◌, nat_lt, nat_le, slice_get, if◌then◌else◌}
-use Rattle.std.proofs.lemmas.Bool.{cases_lt, and_parts, ltb-true, lt-ltb, false_from_ne_true}
-use Rattle.pmt_laws.specs.Prelude.{Written, line_of, Act, Stores, Flushes, Clflushes, Fences, Asserts, Image, count, writes, image_of, Recording, IsAct, history, count_at, CrashAt, front_at, Has, cut, matching_place}
-use Rattle.pmt_laws.proofs.Histories.{history-act, history-step, count-mono, front-le-count}
+use Rattle.pmt_part_laws.proofs.Prelude.{◌≡◌, ℕ, zero, suc, ◌+◌, ◌-◌, ◌<◌, ◌≤◌, inl, inr, Bool, true, false, List, [], ◌∷◌, length, Some, None, refl, sym, ap, subst, ◌∙◌, arith, ◌↔◌, nat_lt, nat_le, slice_get, if◌then◌else◌, cases_lt, and_parts, ltb-true, lt-ltb, false_from_ne_true, Written, line_of, Act, Stores, Image, count, writes, image_of, Recording, IsAct, history, count_at, CrashAt, front_at, Has, cut, matching_place, history-act, history-step, count-mono, front-le-count, count-at_store, act-origin, IsWellFormed, IsPart, upon, safe_image, PartImages}
 use Rattle.pmt_laws.proofs.SameFronts.{fronts-are-vectors}
-use Rattle.pmt_safety.proofs.StoreLemmas.{count-at_store}
-use Rattle.pmt_slices.proofs.CuttingLemmas.{act-origin}
-use Rattle.pmt_part_laws.specs.Parts.{IsWellFormed, IsPart, upon, safe_image, PartImages}
 use Rattle.pmt_part_laws.proofs.ByteLemmas.{byte-line}
 use Rattle.pmt_part_laws.proofs.StepLemmas.{part_history, part-subsequence, along, store-kept, kept-store}
 use Rattle.pmt_part_laws.proofs.FrontLemmas.{count-part}
@@ -40,10 +33,7 @@ by_counts v u h g same counts a = ap (λ x. image_of v x a) same ∙ go g
     go : (h : List Act) → image_of v h a ≡ image_of u h a
     go [] = refl
     go (Stores l w ∷ h) = step l w h (go h)
-    go (Flushes t l ∷ h) = go h
-    go (Clflushes l ∷ h) = go h
-    go (Fences t ∷ h) = go h
-    go (Asserts ∷ h) = go h
+    go (a ∷ h) = go h
 
 -- the stores that are persisted write nothing to a byte where its line has none
 module _ (U : Recording) (v : ℕ → ℕ) (a line : ℕ) (own : (i l : ℕ) (w : Written) → IsAct U i (Stores l w) → writes w a ≡ true → l ≡ line) where
@@ -63,10 +53,7 @@ module _ (U : Recording) (v : ℕ → ℕ) (a line : ℕ) (own : (i l : ℕ) (w 
               absurd (omega (arith, none, count-at_store U line m w here))
           at false true free = old
           at false false free = old
-      go (Flushes t l) is old = old
-      go (Clflushes l) is old = old
-      go (Fences t) is old = old
-      go Asserts is old = old
+      go b is old = old
 
 module _ (T : Recording) (q r : ℕ) (K : List ℕ) (formed : IsWellFormed T) (part : IsPart T q r K) where
   abbrev F : ℕ → ℕ
@@ -105,10 +92,7 @@ module _ (T : Recording) (q r : ℕ) (K : List ℕ) (formed : IsWellFormed T) (p
           at true true hit = let x = written w a hit in rw x.1 refl
           at true false free = old
           at false c hit = old
-      keeps n (Flushes t l) by is has old = old
-      keeps n (Clflushes l) by is has old = old
-      keeps n (Fences t) by is has old = old
-      keeps n Asserts by is has old = old
+      keeps n b by is has old = old
 
       drops : (n : ℕ) (b : Act) → suc n ≤ r → IsAct T (suc n) b → ¬ Has K (suc n) → image_of v (history T n) a ≡ upon (image_of u (part_history T K n) a) (image_of F (history T n) a) →
           image_of v (b ∷ history T n) a ≡ upon (image_of u (part_history T K n) a) (image_of F (b ∷ history T n) a)
@@ -137,10 +121,7 @@ module _ (T : Recording) (q r : ℕ) (K : List ℕ) (formed : IsWellFormed T) (p
               ≡ upon (image_of u (part_history T K n) a) (if c then slice_get w.bytes (a - w.addr) else image_of F (history T n) a)
           at true hit = let e = none hit in rw e refl
           at false free = old
-      drops n (Flushes t l) by is dropped old = old
-      drops n (Clflushes l) by is dropped old = old
-      drops n (Fences t) by is dropped old = old
-      drops n Asserts by is dropped old = old
+      drops n b by is dropped old = old
 
   -- what is safe at place q is written by then
   safe-stays : (a n : ℕ) → q ≤ n → image_of F (history T n) a ≡ image_of F (history T q) a
@@ -157,10 +138,7 @@ module _ (T : Recording) (q r : ℕ) (K : List ℕ) (formed : IsWellFormed T) (p
       go later (Stores l w) =
           let unsafe : nat_lt (count l (history T n)) (F l) ≡ false = not-less (count_at T l n) (F l) (omega (arith, front-le-count l (history T q), count-mono T l q n later)) in
           rw unsafe refl
-      go later (Flushes t l) = refl
-      go later (Clflushes l) = refl
-      go later (Fences t) = refl
-      go later Asserts = refl
+      go later b = refl
 
   images : (n : ℕ) (image : Image) → q ≤ n → n ≤ r → CrashAt T n image ↔ ((own : Image) × CrashAt (cut T K) (matching_place K n) own × ((a : ℕ) → image a ≡ upon (own a) (safe_image T q a)))
   images n image after within = (there, back)

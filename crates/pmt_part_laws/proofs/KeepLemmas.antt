@@ -1,16 +1,8 @@
 -- What is kept of a trace, and of the trace cut to a part.
-use Rattle.std.proofs.Common.{◌≡◌, ℕ, zero, suc, ◌-◌, ◌<◌, ◌≤◌, inl, inr, List, length, refl, sym, ap, subst, ◌∙◌, arith}
-use Rattle.std.specs.Prelude.{◌⊎◌, ◌↔◌}
-use Rattle.std.proofs.lemmas.Bool.{cases_lt}
-use Rattle.pmt_laws.specs.Prelude.{Act, Stores, Flushes, Clflushes, Fences, Asserts, Recording, IsAct, history, count_at, front_at, Has, cut, matching_place}
+use Rattle.pmt_part_laws.proofs.Prelude.{◌≡◌, ℕ, zero, suc, ◌-◌, ◌<◌, ◌≤◌, inl, inr, List, length, refl, sym, ap, subst, ◌∙◌, arith, ◌⊎◌, ◌↔◌, cases_lt, Act, Stores, Flushes, Clflushes, Fences, Asserts, Recording, IsAct, history, count_at, front_at, Has, cut, matching_place, history-step, front-mono, has-above, place-kept, IsSubsequence, kept-act, IsOrigin, act-origin, placed-later, later-origin, IsPart, IsDecidedBy, PartKeeps}
 use Rattle.pmt_model.specs.Keeping.{IsKept, Stays, ByFlush}
-use Rattle.pmt_laws.proofs.Histories.{history-step, front-mono}
-use Rattle.pmt_laws.proofs.CutLemmas.{has-above, place-kept}
 use Rattle.pmt_laws.proofs.NeededFlushes.{IsNeededFlush, kept-needed}
 use Rattle.pmt_laws.proofs.PassLemmas.{fence_is_kept, clflush_is_kept}
-use Rattle.pmt_slices.specs.Slices.{IsSubsequence}
-use Rattle.pmt_slices.proofs.CuttingLemmas.{kept-act, IsOrigin, act-origin, placed-later, later-origin}
-use Rattle.pmt_part_laws.specs.Parts.{IsPart, IsDecidedBy, PartKeeps}
 use Rattle.pmt_part_laws.proofs.StepLemmas.{part-subsequence, has-stretch, part-by}
 use Rattle.pmt_part_laws.proofs.FrontLemmas.{count-part, front-part}
 use Rattle.pmt_part_laws.proofs.OriginLemmas.{fence-kept, again-kept, late-fence, late-clflush}

@@ -1,3 +1,4 @@
+pub mod Prelude
 pub mod StepLemmas
 pub mod FrontLemmas
 pub mod BoxLemmas

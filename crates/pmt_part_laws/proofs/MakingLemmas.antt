@@ -1,12 +1,8 @@
 -- The carry, followed by the events of the stretch, is the part.
-use Rattle.std.proofs.Common.{ℕ, zero, suc, ◌+◌, ◌-◌, ◌<◌, ◌≤◌, inl, inr, List, [], ◌∷◌, ◌++◌, refl, arith}
-use Rattle.std.specs.Prelude.{◌⊎◌, ◌↔◌}
-use Rattle.std.proofs.lemmas.Bool.{cases_lt}
-use Rattle.pmt_laws.specs.Prelude.{Recording, IsRising, Has}
-use Rattle.pmt_part_laws.specs.Parts.{IsCarried, stretch, PartIsMade}
+use Rattle.pmt_part_laws.proofs.Prelude.{ℕ, zero, suc, ◌+◌, ◌-◌, ◌<◌, ◌≤◌, inl, inr, List, [], ◌∷◌, ◌++◌, refl, arith, ◌⊎◌, ◌↔◌, cases_lt, Recording, IsRising, Has, IsCarried, stretch, PartIsMade}
 
 -- one list after the other has the numbers of both
-has-both : (C S : List ℕ) (k : ℕ) → Has (C ++ S) k ↔ (Has C k ⊎ Has S k)
+pub has-both : (C S : List ℕ) (k : ℕ) → Has (C ++ S) k ↔ (Has C k ⊎ Has S k)
 has-both [] S k = (λ has. inr has, back)
   where
     back : Has [] k ⊎ Has S k → Has S k
@@ -24,16 +20,16 @@ has-both (c ∷ cs) S k = (there (has-both cs S k).0, back (has-both cs S k).1)
     back rest (inr has) = inr (rest (inr has))
 
 -- it rises where the first one ends by where the second one begins
-rising-both : (low q : ℕ) (C S : List ℕ) → IsRising low C → ((k : ℕ) → Has C k → k ≤ q) → low ≤ q → IsRising q S → IsRising low (C ++ S)
+pub rising-both : (low q : ℕ) (C S : List ℕ) → IsRising low C → ((k : ℕ) → Has C k → k ≤ q) → low ≤ q → IsRising q S → IsRising low (C ++ S)
 rising-both low q [] [] rising by before more = tt
 rising-both low q [] (s ∷ ss) rising by before more = (omega (arith, before, more.0), more.1)
 rising-both low q (c ∷ cs) S rising by before more = (rising.0, rising-both c q cs S rising.1 (λ k has. by k (inr has)) (by c (inl refl)) more)
 
-stretch-rising : (q n : ℕ) → IsRising q (stretch q n)
+pub stretch-rising : (q n : ℕ) → IsRising q (stretch q n)
 stretch-rising q zero = tt
 stretch-rising q (suc n) = (omega arith, stretch-rising (suc q) n)
 
-stretch-has : (q n k : ℕ) → Has (stretch q n) k ↔ ((q < k) × (k ≤ n + q))
+pub stretch-has : (q n k : ℕ) → Has (stretch q n) k ↔ ((q < k) × (k ≤ n + q))
 stretch-has q zero k = (λ has. absurd has, λ x. absurd (omega (arith, x.0, x.1)))
 stretch-has q (suc n) k = (there (stretch-has (suc q) n k).0, back (stretch-has (suc q) n k).1)
   where

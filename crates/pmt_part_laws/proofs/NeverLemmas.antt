@@ -1,13 +1,6 @@
 -- Stores that are never persisted, in a trace and in the trace cut to its last part.
-use Rattle.std.proofs.Common.{◌≡◌, ℕ, zero, suc, ◌-◌, ◌<◌, ◌≤◌, inl, inr, List, [], ◌∷◌, length, filter_map, Some, refl, sym, ap, ◌∙◌, arith}
-use Rattle.std.proofs.lemmas.Bool.{le-leb}
-use Rattle.pmt_laws.specs.Prelude.{Event, Stores, Flushes, Clflushes, Recording, event, IsAct, front_at, IsNeverPersisted, IsFlushedAfter, IsFlushOf, ByFlush, ByClflush, Has, cut, matching_place}
-use Rattle.pmt_laws.proofs.Histories.{act-within, event-some, front-mono}
-use Rattle.pmt_laws.proofs.CutLemmas.{has-above}
+use Rattle.pmt_part_laws.proofs.Prelude.{◌≡◌, ℕ, zero, suc, ◌-◌, ◌<◌, ◌≤◌, inl, inr, List, [], ◌∷◌, length, filter_map, Some, refl, sym, ap, ◌∙◌, arith, le-leb, Event, Stores, Flushes, Clflushes, Recording, event, IsAct, front_at, IsNeverPersisted, IsFlushedAfter, IsFlushOf, ByFlush, ByClflush, Has, cut, matching_place, act-within, event-some, front-mono, has-above, IsSubsequence, kept-act, placed-later, later-origin, IsPart, PartNeverPersists, PartFlushedAfter}
 use Rattle.pmt_laws.proofs.NeverLemmas.{never_persisted_by_fronts}
-use Rattle.pmt_slices.specs.Slices.{IsSubsequence}
-use Rattle.pmt_slices.proofs.CuttingLemmas.{kept-act, placed-later, later-origin}
-use Rattle.pmt_part_laws.specs.Parts.{IsPart, PartNeverPersists, PartFlushedAfter}
 use Rattle.pmt_part_laws.proofs.StepLemmas.{part-subsequence, part-by, store-kept}
 use Rattle.pmt_part_laws.proofs.FrontLemmas.{count-part, front-part}
 use Rattle.pmt_part_laws.proofs.OriginLemmas.{flushed-kept, flush-origin, flush-kept}

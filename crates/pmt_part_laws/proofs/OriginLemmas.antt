@@ -1,13 +1,5 @@
 -- Flushes and fences of a trace, and those of the trace cut to a part.
-use Rattle.std.proofs.Common.{◌≡◌, ℕ, ◌<◌, ◌≤◌, inl, inr, List, refl, sym, subst, le_antisymm, arith}
-use Rattle.std.specs.Prelude.{◌⊎◌}
-use Rattle.std.proofs.lemmas.Bool.{cases_lt}
-use Rattle.pmt_laws.specs.Prelude.{Written, Act, Stores, Flushes, Clflushes, Fences, Recording, IsAct, history, count_at, mark, front_at, IsFlushOf, ByFlush, ByClflush, Has, cut, matching_place}
-use Rattle.pmt_laws.proofs.Histories.{act-unique, count-mono}
-use Rattle.pmt_laws.proofs.FrontLemmas.{mark-greatest, completed-le_front}
-use Rattle.pmt_laws.proofs.LastFlushes.{IsLastFlush, last-flush}
-use Rattle.pmt_slices.proofs.CuttingLemmas.{kept-act, act-origin, placed-by}
-use Rattle.pmt_part_laws.specs.Parts.{IsCarried, IsPart}
+use Rattle.pmt_part_laws.proofs.Prelude.{◌≡◌, ℕ, ◌<◌, ◌≤◌, inl, inr, List, refl, sym, subst, le_antisymm, arith, ◌⊎◌, cases_lt, Written, Act, Stores, Flushes, Clflushes, Fences, Recording, IsAct, history, count_at, mark, front_at, IsFlushOf, ByFlush, ByClflush, Has, cut, matching_place, act-unique, count-mono, mark-greatest, completed-le_front, IsLastFlush, last-flush, kept-act, act-origin, placed-by, IsCarried, IsPart}
 use Rattle.pmt_part_laws.proofs.StepLemmas.{part-subsequence, has-stretch, kept-store}
 use Rattle.pmt_part_laws.proofs.FrontLemmas.{last-kept}
 

@@ -1,13 +1,5 @@
 -- Stores that are overwritten, in a trace and in the trace cut to a part.
-use Rattle.std.proofs.Common.{◌≡◌, ℕ, zero, suc, ◌<◌, ◌≤◌, inl, inr, refl, sym, subst, ◌∙◌, arith}
-use Rattle.std.proofs.lemmas.Bool.{cases_lt}
-use Rattle.pmt_laws.specs.Prelude.{Written, Act, Stores, Flushes, Clflushes, Recording, IsAct, count_at, front_at, IsFlushOf, ByFlush, ByClflush, IsOverwritten, Has, cut, matching_place}
-use Rattle.pmt_laws.proofs.Histories.{act-unique, act-within}
-use Rattle.pmt_laws.proofs.FrontLemmas.{IsFrontOf, front-reached}
-use Rattle.pmt_safety.proofs.StoreLemmas.{store-by, count-at_store}
-use Rattle.pmt_slices.specs.Slices.{IsSubsequence}
-use Rattle.pmt_slices.proofs.CuttingLemmas.{kept-act, act-origin, placed-later, later-origin}
-use Rattle.pmt_part_laws.specs.Parts.{PartOverwrites}
+use Rattle.pmt_part_laws.proofs.Prelude.{◌≡◌, ℕ, zero, suc, ◌<◌, ◌≤◌, inl, inr, refl, sym, subst, ◌∙◌, arith, cases_lt, Written, Act, Stores, Flushes, Clflushes, Recording, IsAct, count_at, front_at, IsFlushOf, ByFlush, ByClflush, IsOverwritten, Has, cut, matching_place, act-unique, act-within, IsFrontOf, front-reached, store-by, count-at_store, IsSubsequence, kept-act, act-origin, placed-later, later-origin, PartOverwrites}
 use Rattle.pmt_part_laws.proofs.ByteLemmas.{byte-line}
 use Rattle.pmt_part_laws.proofs.StepLemmas.{part-subsequence, has-stretch, store-kept}
 use Rattle.pmt_part_laws.proofs.PersistLemmas.{later-kept}

@@ -1,19 +1,10 @@
 -- Verdicts in a trace and in the trace cut to a part.
-use Rattle.std.proofs.Common.{◌≡◌, ℕ, zero, suc, ◌-◌, ◌<◌, ◌≤◌, inl, inr, List, sym, ap, subst, ◌∙◌, true, arith}
-use Rattle.std.specs.Prelude.{◌↔◌, ◌⊎◌}
-use Rattle.std.proofs.lemmas.Bool.{cases_lt}
-use Rattle.pmt_laws.specs.Prelude.{Written, Span, Stores, writes, Recording, IsAct, history, count_at, front_at, PersistPasses, OrderedPasses, Has, cut, matching_place}
-use Rattle.pmt_laws.proofs.Histories.{act-unique, count-mono, front-mono}
-use Rattle.pmt_laws.proofs.CutLemmas.{place-mono}
+use Rattle.pmt_part_laws.proofs.Prelude.{◌≡◌, ℕ, zero, suc, ◌-◌, ◌<◌, ◌≤◌, inl, inr, List, sym, ap, subst, ◌∙◌, true, arith, ◌↔◌, ◌⊎◌, cases_lt, Written, Span, Stores, writes, Recording, IsAct, history, count_at, front_at, PersistPasses, OrderedPasses, Has, cut, matching_place, act-unique, count-mono, front-mono, place-mono, count-at_store, IsSubsequence, kept-act, IsOrigin, act-origin, placed-later, placed-by, IsWellFormed, IsPart, PartPersists, PartOrders, PartAsideFails}
 use Rattle.pmt_laws.proofs.OverwrittenLemmas.{IsLastWriter, last_store_number-from, last_store_number-is}
 use Rattle.pmt_safety.specs.Safety.{safe_store_at, IsLastIn}
-use Rattle.pmt_safety.proofs.StoreLemmas.{count-at_store}
 use Rattle.pmt_safety.proofs.SafetyLemmas.{front-covers}
 use Rattle.pmt_safety.proofs.VerdictLemmas.{persist_by_stores, ordered_by_stores}
-use Rattle.pmt_slices.specs.Slices.{IsSubsequence}
-use Rattle.pmt_slices.proofs.CuttingLemmas.{kept-act, IsOrigin, act-origin, placed-later, placed-by}
 use Rattle.pmt_slices.proofs.VerdictLemmas.{last-by_now, last_in-kept}
-use Rattle.pmt_part_laws.specs.Parts.{IsWellFormed, IsPart, PartPersists, PartOrders, PartAsideFails}
 use Rattle.pmt_part_laws.proofs.ByteLemmas.{byte-line}
 use Rattle.pmt_part_laws.proofs.StepLemmas.{part-subsequence, has-stretch, store-kept, kept-store}
 use Rattle.pmt_part_laws.proofs.FrontLemmas.{count-part, front-part}

@@ -1,16 +1,6 @@
 -- Flushes that are redundant, in a trace and in the trace cut to a part.
-use Rattle.std.proofs.Common.{◌≡◌, ℕ, zero, suc, ◌-◌, ◌<◌, ◌≤◌, max, inl, inr, List, Option, Some, None, unwrap_or, sym, ap, subst, ◌∙◌, arith}
-use Rattle.std.specs.Prelude.{◌⊎◌, ◌↔◌}
-use Rattle.std.proofs.lemmas.Bool.{cases_lt}
-use Rattle.pmt_laws.specs.Prelude.{Flushes, Clflushes, Fences, Recording, IsAct, history, count_at, mark, open_mark, front_at, IsRedundantFlush, IsRedundantClflush, Has, cut, matching_place}
-use Rattle.pmt_laws.proofs.Histories.{count-mono, front-mono}
-use Rattle.pmt_laws.proofs.CutLemmas.{place-kept, place-mono}
-use Rattle.pmt_laws.proofs.FrontLemmas.{mark-greatest}
-use Rattle.pmt_laws.proofs.LastFlushes.{IsLastFlush, last-flush}
+use Rattle.pmt_part_laws.proofs.Prelude.{◌≡◌, ℕ, zero, suc, ◌-◌, ◌<◌, ◌≤◌, max, inl, inr, List, Option, Some, None, unwrap_or, sym, ap, subst, ◌∙◌, arith, ◌⊎◌, ◌↔◌, cases_lt, Flushes, Clflushes, Fences, Recording, IsAct, history, count_at, mark, open_mark, front_at, IsRedundantFlush, IsRedundantClflush, Has, cut, matching_place, count-mono, front-mono, place-kept, place-mono, mark-greatest, IsLastFlush, last-flush, IsSubsequence, kept-act, act-origin, placed-later, later-origin, placed-by, IsPart, PartRedundantFlush, PartRedundantClflush}
 use Rattle.pmt_laws.proofs.RedundantLemmas.{IsUnfenced, OpenFlush, open_mark-tells, redundant_flush_by_fronts, redundant_clflush_by_fronts}
-use Rattle.pmt_slices.specs.Slices.{IsSubsequence}
-use Rattle.pmt_slices.proofs.CuttingLemmas.{kept-act, act-origin, placed-later, later-origin, placed-by}
-use Rattle.pmt_part_laws.specs.Parts.{IsPart, PartRedundantFlush, PartRedundantClflush}
 use Rattle.pmt_part_laws.proofs.StepLemmas.{part_history, part-subsequence, has-stretch}
 use Rattle.pmt_part_laws.proofs.FrontLemmas.{count-part, front-part, last-kept}
 use Rattle.pmt_part_laws.proofs.OriginLemmas.{act-back, fence-kept}

@@ -1,14 +1,5 @@
 -- The histories of a trace and of the trace cut to a part, event by event.
-use Rattle.std.proofs.Common.{◌≡◌, ℕ, zero, suc, ◌<◌, ◌≤◌, inl, inr, List, [], ◌∷◌, length, refl, sym, ap, subst, subst₂, ◌∙◌, arith}
-use Rattle.std.specs.Prelude.{◌⊎◌}
-use Rattle.std.proofs.lemmas.Bool.{cases_lt}
-use Rattle.pmt_laws.specs.Prelude.{Written, Act, Stores, Flushes, Recording, act, IsAct, history, count_at, front_at, Has, cut, matching_place}
-use Rattle.pmt_laws.proofs.Histories.{event-some, history-act, act-unique, act-within, count-mono, front-le-count}
-use Rattle.pmt_laws.proofs.CutLemmas.{has-dec, place-low, place-kept, place-dropped}
-use Rattle.pmt_safety.proofs.StoreLemmas.{count-at_store}
-use Rattle.pmt_slices.specs.Slices.{IsSubsequence}
-use Rattle.pmt_slices.proofs.CuttingLemmas.{kept-act}
-use Rattle.pmt_part_laws.specs.Parts.{IsCarried, IsPart}
+use Rattle.pmt_part_laws.proofs.Prelude.{◌≡◌, ℕ, zero, suc, ◌<◌, ◌≤◌, inl, inr, List, [], ◌∷◌, length, refl, sym, ap, subst, subst₂, ◌∙◌, arith, ◌⊎◌, cases_lt, Written, Act, Stores, Flushes, Recording, act, IsAct, history, count_at, front_at, Has, cut, matching_place, event-some, history-act, act-unique, act-within, count-mono, front-le-count, has-dec, place-low, place-kept, place-dropped, count-at_store, IsSubsequence, kept-act, IsCarried, IsPart}
 
 -- the history of the part at the place that matches place n
 abbrev pub part_history : Recording → List ℕ → ℕ → List Act
