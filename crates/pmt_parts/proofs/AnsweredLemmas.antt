@@ -1,16 +1,6 @@
 -- The events that a part answers for are those of the whole after the event `before` up to its end.
-use Rattle.std.proofs.Common.{◌≡◌, ℕ, zero, suc, ◌+◌, ◌-◌, ◌<◌, ◌≤◌, inl, inr, List, [], ◌∷◌, length, take, drop, slice_range, filter_map, Some, refl, sym, ap, ap₂, subst, ◌∙◌, arith}
-use Rattle.std.specs.Prelude.{slice_get}
-use Rattle.std.proofs.lemmas.Bool.{cases_lt, le-leb}
-use Rattle.pmt_laws.specs.Prelude.{Event, Recording, event, IsRising, Has, matching_place}
-use Rattle.pmt_laws.proofs.Histories.{event-some}
-use Rattle.pmt_laws.proofs.CutLemmas.{has-above, place-low}
-use Rattle.pmt_asked.specs.declared.ignoring.ByteRange.{ByteRange}
-use Rattle.pmt_part_laws.specs.Parts.{stretch}
-use Rattle.pmt_parts.specs.declared.part.Part.{Part}
-use Rattle.pmt_parts.specs.Making.{IsPartOf}
+use Rattle.pmt_parts.proofs.Prelude.{◌≡◌, ℕ, zero, suc, ◌+◌, ◌-◌, ◌<◌, ◌≤◌, inl, inr, List, [], ◌∷◌, length, take, drop, slice_range, filter_map, Some, refl, sym, ap, ap₂, subst, ◌∙◌, arith, slice_get, cases_lt, Event, Recording, event, IsRising, Has, matching_place, event-some, has-above, place-low, ByteRange, stretch, Part, IsPartOf, answered, place-in}
 use Rattle.pmt_parts.proofs.PartsCarryLemmas.{by-end}
-use Rattle.pmt_parts.specs.Runs.{answered}
 
 -- ---- The numbers after a place
 
@@ -35,9 +25,6 @@ all-after n (suc c) (k ∷ ks) rising by has = ap₂ (λ x xs. x ∷ xs) first (
       | inl e ↦ absurd (omega (arith, e, first, after))
       | inr more ↦ more
     ]
-
-place-in : (k : ℕ) (ks : List ℕ) (n : ℕ) → k ≤ n → matching_place (k ∷ ks) n ≡ suc (matching_place ks n)
-place-in k ks n h = rw (le-leb k n h) refl
 
 after-place : (low n c : ℕ) (K : List ℕ) → IsRising low K → ((k : ℕ) → Has K k → k ≤ n + c) → ((k : ℕ) → n < k → k ≤ n + c → Has K k) → drop (matching_place K n) K ≡ stretch n c
 after-place low n c [] rising by has = all-after n c [] tt by has

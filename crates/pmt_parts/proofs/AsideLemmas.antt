@@ -1,13 +1,6 @@
 -- Assertions that are set aside, by the part and by the whole.
-use Rattle.std.proofs.Common.{◌≡◌, ℕ, ◌<◌, ◌≤◌, List, sym, subst, ◌∙◌, arith}
-use Rattle.pmt_laws.specs.Prelude.{Stores, Recording, cut, matching_place}
-use Rattle.pmt_laws.proofs.Histories.{act-within}
-use Rattle.pmt_laws.proofs.CutLemmas.{place-mono}
+use Rattle.pmt_parts.proofs.Prelude.{◌≡◌, ℕ, ◌<◌, ◌≤◌, List, sym, subst, ◌∙◌, arith, Stores, Recording, cut, matching_place, act-within, place-mono, IsUnwritten, IsSubsequence, kept-event, kept-act, act-origin, placed-later, placed-by, later-origin, ByteRange, IsPartBut, IsOlderOrdered, AsideByWhole, AsideIsAll}
 use Rattle.pmt_laws.proofs.OverwrittenLemmas.{IsLastWriter, last_store_number-is}
-use Rattle.pmt_slices.specs.Slices.{IsUnwritten, IsSubsequence}
-use Rattle.pmt_slices.proofs.CuttingLemmas.{kept-event, kept-act, act-origin, placed-later, placed-by, later-origin}
-use Rattle.pmt_asked.specs.declared.ignoring.ByteRange.{ByteRange}
-use Rattle.pmt_parts.specs.Making.{IsPartBut, IsOlderOrdered, AsideByWhole, AsideIsAll}
 use Rattle.pmt_parts.proofs.PartsCarryLemmas.{subsequence, has-late}
 
 module _ (T : Recording) (ranges : List ByteRange) (q r : ℕ) (K : List ℕ) (part : IsPartBut T ranges q r K) where

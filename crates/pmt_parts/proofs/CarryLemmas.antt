@@ -1,13 +1,5 @@
 -- The events that are marked are the carry.
-use Rattle.std.proofs.Common.{◌≡◌, ℕ, zero, suc, ◌<◌, ◌≤◌, inl, inr, Bool, true, false, List, [], ◌∷◌, length, min, get_or, set, get_or-set_same, get_or-set_other, map, reverse, sym, ap, subst, ◌∙◌, true≢false, arith}
-use Rattle.std.specs.Prelude.{◌↔◌}
-use Rattle.std.proofs.lemmas.Bool.{cases_lt, cases_eq}
-use Rattle.std.proofs.lemmas.List.{take_all, length-set}
-use Rattle.pmt_laws.specs.Prelude.{Stores, Flushes, Fences, Recording, act, history, front, front_at, IsRising, Has}
-use Rattle.pmt_laws.proofs.Histories.{act-within}
-use Rattle.pmt_tables.specs.Flags.{is_kept_at}
-use Rattle.pmt_part_laws.specs.Parts.{IsCarried, IsCarry}
-use Rattle.pmt_parts.specs.Meeting.{TellsCarried, AreCarried}
+use Rattle.pmt_parts.proofs.Prelude.{◌≡◌, ℕ, zero, suc, ◌<◌, ◌≤◌, inl, inr, Bool, true, false, List, [], ◌∷◌, length, min, get_or, set, get_or-set_same, get_or-set_other, map, reverse, sym, ap, subst, ◌∙◌, true≢false, arith, ◌↔◌, cases_lt, cases_eq, take_all, length-set, Stores, Flushes, Fences, Recording, act, history, front, front_at, IsRising, Has, act-within, is_kept_at, IsCarried, IsCarry, TellsCarried, AreCarried}
 
 pub length-set-same : (marked : List Bool) (m : ℕ) (told : Bool) → length (set marked m told) ≡ length marked
 length-set-same marked m told = length-set marked m told

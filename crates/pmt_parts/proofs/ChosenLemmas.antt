@@ -1,50 +1,7 @@
 -- The numbers that are chosen of a part: what it carries over a place, without some, and what comes after it.
-use Rattle.std.proofs.Common.{◌≡◌, ℕ, zero, suc, ◌+◌, ◌-◌, ◌<◌, ◌≤◌, inl, inr, Bool, true, false, List, [], ◌∷◌, ◌++◌, length, filter, append_assoc, refl, sym, ap, ◌∙◌, true≢false, arith}
-use Rattle.std.specs.Prelude.{◌⊎◌, ◌↔◌, not}
-use Rattle.std.proofs.lemmas.Bool.{cases_lt}
-use Rattle.pmt_laws.specs.Prelude.{Recording, IsRising, Has}
-use Rattle.pmt_asked.specs.declared.ignoring.ByteRange.{ByteRange}
-use Rattle.pmt_asked.specs.Choosing.{is_ignored}
-use Rattle.pmt_part_laws.specs.Parts.{IsCarried, IsCarry, stretch}
-use Rattle.pmt_parts.specs.Making.{IsTaken, AreChosen}
+use Rattle.pmt_parts.proofs.Prelude.{◌≡◌, ℕ, zero, suc, ◌+◌, ◌-◌, ◌<◌, ◌≤◌, inl, inr, Bool, true, false, List, [], ◌∷◌, ◌++◌, length, filter, append_assoc, refl, sym, ap, ◌∙◌, true≢false, arith, ◌⊎◌, ◌↔◌, not, Recording, IsRising, Has, ByteRange, is_ignored, IsCarried, IsCarry, stretch, IsTaken, AreChosen, not_from_false, has-both, rising-both, stretch-rising, stretch-has}
 
 -- ---- Lists of numbers
-
-pub has-both : (C S : List ℕ) (k : ℕ) → Has (C ++ S) k ↔ (Has C k ⊎ Has S k)
-has-both [] S k = (λ has. inr has, λ x. elim x [ inl none ↦ absurd none | inr has ↦ has ])
-has-both (c ∷ cs) S k = (there (has-both cs S k).0, back (has-both cs S k).1)
-  where
-    there : (Has (cs ++ S) k → Has cs k ⊎ Has S k) → Has (c ∷ (cs ++ S)) k → Has (c ∷ cs) k ⊎ Has S k
-    there rest (inl first) = inl (inl first)
-    there rest (inr more) = elim (rest more) [ inl has ↦ inl (inr has) | inr has ↦ inr has ]
-
-    back : (Has cs k ⊎ Has S k → Has (cs ++ S) k) → Has (c ∷ cs) k ⊎ Has S k → Has (c ∷ (cs ++ S)) k
-    back rest (inl (inl first)) = inl first
-    back rest (inl (inr has)) = inr (rest (inl has))
-    back rest (inr has) = inr (rest (inr has))
-
-pub rising-both : (low q : ℕ) (C S : List ℕ) → IsRising low C → ((k : ℕ) → Has C k → k ≤ q) → low ≤ q → IsRising q S → IsRising low (C ++ S)
-rising-both low q [] [] rising by before more = tt
-rising-both low q [] (s ∷ ss) rising by before more = (omega (arith, before, more.0), more.1)
-rising-both low q (c ∷ cs) S rising by before more = (rising.0, rising-both c q cs S rising.1 (λ k has. by k (inr has)) (by c (inl refl)) more)
-
-stretch-rising : (q n : ℕ) → IsRising q (stretch q n)
-stretch-rising q zero = tt
-stretch-rising q (suc n) = (omega arith, stretch-rising (suc q) n)
-
-stretch-has : (q n k : ℕ) → Has (stretch q n) k ↔ ((q < k) × (k ≤ n + q))
-stretch-has q zero k = (λ has. absurd has, λ x. absurd (omega (arith, x.0, x.1)))
-stretch-has q (suc n) k = (there (stretch-has (suc q) n k).0, back (stretch-has (suc q) n k).1)
-  where
-    there : (Has (stretch (suc q) n) k → (suc q < k) × (k ≤ n + suc q)) → Has (suc q ∷ stretch (suc q) n) k → (q < k) × (k ≤ suc n + q)
-    there rest (inl first) = (omega (arith, first), omega (arith, first))
-    there rest (inr more) = let x = rest more in (omega (arith, x.0), omega (arith, x.1))
-
-    back : ((suc q < k) × (k ≤ n + suc q) → Has (stretch (suc q) n) k) → (q < k) × (k ≤ suc n + q) → Has (suc q ∷ stretch (suc q) n) k
-    back rest x = elim (cases_lt (suc q) k) [
-      | inl later ↦ inr (rest (later, omega (arith, x.1)))
-      | inr now ↦ inl (omega (arith, now, x.0))
-    ]
 
 -- one more number of the stretch
 pub stretch-more : (q n : ℕ) → stretch q (suc n) ≡ stretch q n ++ (suc (q + n)) ∷ []
@@ -88,9 +45,6 @@ not-true : (b : Bool) → not b ≡ true → b ≡ false
 not-true true e = absurd (true≢false (sym e))
 not-true false e = refl
 
-not-false : (b : Bool) → b ≡ false → not b ≡ true
-not-false b e = rw e refl
-
 pub chosen-rising : (T : Recording) (ranges : List ByteRange) (m : ℕ) (C : List ℕ) → IsCarry T m C → IsRising 0 (chosen_list T ranges m C)
 chosen-rising T ranges m C carry =
     rising-both 0 m (filter told C) (stretch m (length T.events - m)) (filter-rising told 0 C carry.rising)
@@ -116,7 +70,7 @@ chosen-are T ranges m C carry i = (there, back)
     ]
 
     back : IsTaken T ranges m i ⊎ ((m < i) × (i ≤ length T.events)) → Has (chosen_list T ranges m C) i
-    back (inl taken) = (has-both (filter told C) (stretch m (length T.events - m)) i).1 (inl ((filter-has told C i).1 ((carry.just i).1 taken.0, not-false (is_ignored T ranges i) taken.1)))
+    back (inl taken) = (has-both (filter told C) (stretch m (length T.events - m)) i).1 (inl ((filter-has told C i).1 ((carry.just i).1 taken.0, not_from_false (is_ignored T ranges i) taken.1)))
     back (inr x) = (has-both (filter told C) (stretch m (length T.events - m)) i).1 (inr ((stretch-has m (length T.events - m) i).1 (x.0, omega (arith, x.0, x.1))))
 
 -- one more number is pushed

@@ -1,13 +1,5 @@
 -- The beginning of the next part, made from a part.
-use Rattle.std.proofs.Common.{◌≡◌, ℕ, zero, suc, ◌<◌, ◌≤◌, inl, inr, List, [], ◌∷◌, length, Option, None, Some, refl, sym, ap, subst, ◌∙◌, arith}
-use Rattle.std.specs.Prelude.{◌⊎◌, ◌↔◌}
-use Rattle.pmt_laws.specs.Prelude.{Stores, Flushes, Event, Recording, event, act, IsRising, Has, cut, matching_place, AllByRecursion}
-use Rattle.pmt_laws.proofs.Histories.{event-some, act-within}
-use Rattle.pmt_laws.proofs.CutLemmas.{has-above}
-use Rattle.pmt_slices.proofs.CuttingLemmas.{kept-act, placed-later, later-origin}
-use Rattle.pmt_asked.specs.declared.ignoring.ByteRange.{ByteRange}
-use Rattle.pmt_parts.specs.declared.part.Part.{Part}
-use Rattle.pmt_parts.specs.Making.{IsTaken, IsPartBut, IsPartOf, through, AreChosen}
+use Rattle.pmt_parts.proofs.Prelude.{◌≡◌, ℕ, zero, suc, ◌<◌, ◌≤◌, inl, inr, List, [], ◌∷◌, length, Option, None, Some, refl, sym, ap, subst, ◌∙◌, arith, ◌⊎◌, ◌↔◌, Stores, Flushes, Event, Recording, event, act, IsRising, Has, cut, matching_place, AllByRecursion, event-some, act-within, has-above, kept-act, placed-later, later-origin, ByteRange, Part, IsTaken, IsPartBut, IsPartOf, through, AreChosen}
 use Rattle.pmt_parts.proofs.PartsCarryLemmas.{subsequence, has-late, by-end, part_carries_at}
 use Rattle.pmt_parts.proofs.PickLemmas.{AreIn, has-through, rising-through, cut-through}
 

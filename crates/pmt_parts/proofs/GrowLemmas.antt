@@ -1,15 +1,7 @@
 -- A part with one more event of its stretch.
-use Rattle.std.proofs.Common.{◌≡◌, ℕ, zero, suc, ◌+◌, ◌<◌, ◌≤◌, inl, inr, List, [], ◌∷◌, ◌++◌, length, get_or, take, Some, filter_map, drop, append_assoc, refl, sym, ap, subst, ◌∙◌, arith}
-use Rattle.std.specs.Prelude.{◌⊎◌, slice_get}
-use Rattle.std.proofs.lemmas.Bool.{cases_lt}
-use Rattle.std.proofs.Math.Seq.{take-suc}
+use Rattle.pmt_parts.proofs.Prelude.{◌≡◌, ℕ, zero, suc, ◌+◌, ◌<◌, ◌≤◌, inl, inr, List, [], ◌∷◌, ◌++◌, length, get_or, take, Some, filter_map, drop, append_assoc, refl, sym, ap, subst, ◌∙◌, arith, ◌⊎◌, slice_get, cases_lt, take-suc, Event, Recording, event, Has, cut, with_event, ByteRange, Part, IsTaken, IsPartBut, IsPartOf, ComesNext, has-both, rising-both}
 use Rattle.std.proofs.lemmas.List.Elements.{filter_map-append}
-use Rattle.pmt_laws.specs.Prelude.{Event, Recording, event, Has, cut, with_event}
-use Rattle.pmt_asked.specs.declared.ignoring.ByteRange.{ByteRange}
-use Rattle.pmt_parts.specs.declared.part.Part.{Part}
-use Rattle.pmt_parts.specs.Making.{IsTaken, IsPartBut, IsPartOf, ComesNext}
 use Rattle.pmt_parts.proofs.PartsCarryLemmas.{by-end}
-use Rattle.pmt_parts.proofs.ChosenLemmas.{has-both, rising-both}
 
 pub part-more : (T : Recording) (ranges : List ByteRange) (q r : ℕ) (K : List ℕ) → IsPartBut T ranges q r K → suc r ≤ length T.events → IsPartBut T ranges q (suc r) (K ++ suc r ∷ [])
 part-more T ranges q r K part within = record {

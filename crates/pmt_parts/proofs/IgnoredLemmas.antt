@@ -1,11 +1,6 @@
 -- Where no range is ignored.
-use Rattle.std.proofs.Common.{◌≡◌, ℕ, zero, suc, ◌≤◌, inl, inr, false, List, [], ◌∷◌, length, refl, arith}
-use Rattle.std.specs.Prelude.{slice_get}
-use Rattle.pmt_laws.specs.Prelude.{Event, Op, Recording, IsEventIn, IsOp, AllByRecursion}
+use Rattle.pmt_parts.proofs.Prelude.{◌≡◌, ℕ, zero, suc, ◌≤◌, inl, inr, false, List, [], ◌∷◌, length, refl, arith, slice_get, Event, Op, Recording, IsEventIn, IsOp, AllByRecursion, are_ignored, is_op_ignored, is_event_ignored, is_ignored, IsWellFormed, PartOfAll}
 use Rattle.pmt_model.specs.declared.event.Op.TheVariants as ops
-use Rattle.pmt_asked.specs.Choosing.{are_ignored, is_op_ignored, is_event_ignored, is_ignored}
-use Rattle.pmt_part_laws.specs.Parts.{IsWellFormed}
-use Rattle.pmt_parts.specs.Making.{PartOfAll}
 
 none-ignored : (a : ℕ) (bytes : List ℕ) → 1 ≤ length bytes → are_ignored [] a bytes ≡ false
 none-ignored a [] some = absurd (omega (arith, some))
@@ -13,13 +8,7 @@ none-ignored a (b ∷ bytes) some = refl
 
 op-told : (op : Op) → IsOp op → is_op_ignored [] op ≡ false
 op-told (ops.Store w) is = none-ignored w.addr w.bytes is.some
-op-told (ops.Clwb a) is = refl
-op-told (ops.ClflushOpt a) is = refl
-op-told (ops.Clflush a) is = refl
-op-told ops.Sfence is = refl
-op-told ops.Mfence is = refl
-op-told (ops.IsPersist r) is = refl
-op-told (ops.IsOrderedBefore r q) is = refl
+op-told op is = refl
 
 get-told : (T : Recording) (es : List Event) (i : ℕ) → AllByRecursion (IsEventIn T.format) es → is_event_ignored [] (slice_get es i) ≡ false
 get-told T [] i all = refl

@@ -1,17 +1,6 @@
 -- What comes after a place, going back event by event, and which events are carried.
-use Rattle.std.proofs.Common.{◌≡◌, ◌≢◌, ℕ, suc, ◌<◌, ◌≤◌, inl, inr, Bool, true, false, List, [], length, get_or, set, get_or-set_same, get_or-set_other, refl, sym, ap, subst, ◌∙◌, true≢false, eq-eqb, arith}
-use Rattle.std.specs.Prelude.{◌⊎◌, ◌↔◌, not, nat_eq, replicate, if◌then◌else◌}
-use Rattle.std.proofs.lemmas.Bool.{cases_lt, cases_eq, ne_eqb}
-use Rattle.std.proofs.lemmas.List.{length-set, get_or-replicate, length-replicate}
-use Rattle.pmt_laws.specs.Prelude.{Written, Act, Stores, Flushes, Clflushes, Fences, Asserts, Recording, IsAct, count_at, front_at, list_any}
-use Rattle.pmt_laws.proofs.Histories.{act-unique}
-use Rattle.pmt_safety.specs.Safety.{safe_store_at}
-use Rattle.pmt_safety.proofs.SafetyLemmas.{front-below}
-use Rattle.pmt_explain.specs.Following.{IsCompleteBy, ByFence, ByItself, IsCompletedAfter}
-use Rattle.pmt_slices.proofs.CoverLemmas.{completed-safe}
-use Rattle.pmt_part_laws.specs.Parts.{IsCarried}
+use Rattle.pmt_parts.proofs.Prelude.{◌≡◌, ◌≢◌, ℕ, suc, ◌<◌, ◌≤◌, inl, inr, Bool, true, false, List, [], length, get_or, set, get_or-set_same, get_or-set_other, refl, sym, ap, subst, ◌∙◌, true≢false, eq-eqb, arith, ◌⊎◌, ◌↔◌, not, nat_eq, replicate, if◌then◌else◌, cases_lt, cases_eq, ne_eqb, length-set, get_or-replicate, length-replicate, Written, Act, Stores, Flushes, Clflushes, Fences, Asserts, Recording, IsAct, count_at, front_at, list_any, act-unique, safe_store_at, front-below, IsCompleteBy, ByFence, ByItself, IsCompletedAfter, completed-safe, IsCarried, Since, IsOpenAt, flush_key, HasKey, IsLater, TellsCarried}
 use Rattle.pmt_parts.specs.declared.later.Later.{Later}
-use Rattle.pmt_parts.specs.Meeting.{Since, IsOpenAt, flush_key, HasKey, IsLater, TellsCarried}
 
 -- ---- One more event
 

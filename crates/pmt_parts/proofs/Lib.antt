@@ -1,3 +1,4 @@
+pub mod Prelude
 pub mod LaterLemmas
 pub mod CarryLemmas
 pub mod PartsCarryLemmas

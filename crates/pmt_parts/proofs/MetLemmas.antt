@@ -1,15 +1,7 @@
 -- One more event is met.
-use Rattle.std.proofs.Common.{◌≡◌, ℕ, zero, suc, ◌<◌, ◌≤◌, inl, inr, true, List, [], ◌∷◌, ◌++◌, length, get_or, Some, refl, sym, ap, subst, ◌∙◌, arith}
-use Rattle.std.specs.Prelude.{◌⊎◌, ◌↔◌, slice_get}
-use Rattle.std.proofs.lemmas.Bool.{cases_lt}
-use Rattle.std.proofs.lemmas.Option.{slice_get-get_or, slice_get_within}
-use Rattle.pmt_laws.specs.Prelude.{Event, Op, Written, Span, Layout, line_of, Stores, writes, Recording, IsAct, act_of, Has, InSpan}
+use Rattle.pmt_parts.proofs.Prelude.{◌≡◌, ℕ, zero, suc, ◌<◌, ◌≤◌, inl, inr, true, List, [], ◌∷◌, ◌++◌, length, get_or, Some, refl, sym, ap, subst, ◌∙◌, arith, ◌⊎◌, ◌↔◌, slice_get, cases_lt, slice_get-get_or, slice_get_within, Event, Op, Written, Span, Layout, line_of, Stores, writes, Recording, IsAct, act_of, Has, InSpan, act-unique, IsUnwritten, IsOrderedWith, IsOlderOrdered, HasByte, HasOp, IsWritten, IsMet, has-both}
 use Rattle.pmt_model.specs.declared.event.Op.TheVariants as ops
-use Rattle.pmt_laws.proofs.Histories.{act-unique}
-use Rattle.pmt_slices.specs.Slices.{IsUnwritten}
 use Rattle.pmt_parts.specs.declared.aside.Met.{Met}
-use Rattle.pmt_parts.specs.Making.{IsOrderedWith, IsOlderOrdered, HasByte, HasOp, IsWritten, IsMet}
-use Rattle.pmt_parts.proofs.ChosenLemmas.{has-both}
 
 -- event k stores to the byte at b
 abbrev pub WritesAt : Recording → ℕ → ℕ → Type 0
@@ -143,13 +135,7 @@ module _ (T : Recording) (m before n : ℕ) (B : Span) (from : m ≤ n) (has : I
 
 store-op : (f : Layout) (t l : ℕ) (w : Written) (op : Op) → act_of f t op ≡ Stores l w → op ≡ ops.Store w
 store-op f t l w (ops.Store v) e = cc
-store-op f t l w (ops.Clwb a) e = absurd (cc)
-store-op f t l w (ops.ClflushOpt a) e = absurd (cc)
-store-op f t l w (ops.Clflush a) e = absurd (cc)
-store-op f t l w ops.Sfence e = absurd (cc)
-store-op f t l w ops.Mfence e = absurd (cc)
-store-op f t l w (ops.IsPersist r) e = absurd (cc)
-store-op f t l w (ops.IsOrderedBefore r q) e = absurd (cc)
+store-op f t l w op e = absurd (cc)
 
 pub met-neither : (T : Recording) (m before n : ℕ) (s : Met) (op : Op) → m ≤ n → HasOp T (suc n) op → ((w : Written) → op ≡ ops.Store w → ⊥) → ((A B : Span) → op ≡ ops.IsOrderedBefore A B → ⊥) →
     IsMet T m before n s → IsMet T m before (suc n) s

@@ -1,22 +1,7 @@
 -- What a part without the ignored stores of its carry carries at each place of its stretch.
-use Rattle.std.proofs.Common.{◌≡◌, ℕ, ◌<◌, ◌≤◌, ◌⊎◌, inl, inr, false, List, length, refl, sym, ap, subst, ◌∙◌, le_antisymm, arith}
-use Rattle.std.specs.Prelude.{◌↔◌}
-use Rattle.std.proofs.lemmas.Bool.{cases_lt}
-use Rattle.pmt_laws.specs.Prelude.{Op, Written, Layout, Act, Stores, Flushes, Clflushes, Fences, Recording, IsAct, act_of, count_at, front_at, Has, cut, matching_place}
+use Rattle.pmt_parts.proofs.Prelude.{◌≡◌, ℕ, ◌<◌, ◌≤◌, ◌⊎◌, inl, inr, false, List, length, refl, sym, ap, subst, ◌∙◌, le_antisymm, arith, ◌↔◌, cases_lt, Op, Written, Layout, Act, Stores, Flushes, Clflushes, Fences, Recording, IsAct, act_of, count_at, front_at, Has, cut, matching_place, act-unique, act-within, front-mono, place-mono, safe_store_at, front-below, ByFence, ByItself, IsCompletedAfter, ByteRange, is_op_ignored, is_event_ignored, is_ignored, IsSubsequence, kept-event, kept-act, act-origin, placed-later, later-origin, placed-by, completed-safe, IsPending, IsLastOpen, IsCarried, IsTaken, IsPartBut, PartCarriesAt}
 use Rattle.pmt_model.specs.declared.event.Op.TheVariants as ops
-use Rattle.pmt_laws.proofs.Histories.{act-unique, act-within, front-mono}
-use Rattle.pmt_laws.proofs.CutLemmas.{place-mono}
-use Rattle.pmt_safety.specs.Safety.{safe_store_at}
-use Rattle.pmt_safety.proofs.SafetyLemmas.{front-below}
-use Rattle.pmt_explain.specs.Following.{ByFence, ByItself, IsCompletedAfter}
-use Rattle.pmt_asked.specs.declared.ignoring.ByteRange.{ByteRange}
-use Rattle.pmt_asked.specs.Choosing.{is_op_ignored, is_event_ignored, is_ignored}
-use Rattle.pmt_slices.specs.Slices.{IsSubsequence}
-use Rattle.pmt_slices.proofs.CuttingLemmas.{kept-event, kept-act, act-origin, placed-later, later-origin, placed-by}
-use Rattle.pmt_slices.proofs.CoverLemmas.{completed-safe}
-use Rattle.pmt_part_laws.specs.Parts.{IsPending, IsLastOpen, IsCarried}
 use Rattle.pmt_part_laws.proofs.FenceLemmas.{flush-dec, last-since, NoneSince}
-use Rattle.pmt_parts.specs.Making.{IsTaken, IsPartBut, PartCarriesAt}
 
 -- ---- Any trace
 
@@ -30,13 +15,7 @@ pending-is T l j n w is = (
 -- a flush is ignored by no range
 flush-op : (f : Layout) (ranges : List ByteRange) (u t l : ℕ) (op : Op) → act_of f u op ≡ Flushes t l → is_op_ignored ranges op ≡ false
 flush-op f ranges u t l (ops.Store w) e = absurd (cc)
-flush-op f ranges u t l (ops.Clwb a) e = refl
-flush-op f ranges u t l (ops.ClflushOpt a) e = refl
-flush-op f ranges u t l (ops.Clflush a) e = refl
-flush-op f ranges u t l ops.Sfence e = refl
-flush-op f ranges u t l ops.Mfence e = refl
-flush-op f ranges u t l (ops.IsPersist r) e = refl
-flush-op f ranges u t l (ops.IsOrderedBefore r s) e = refl
+flush-op f ranges u t l op e = refl
 
 flush-told : (T : Recording) (ranges : List ByteRange) (k t l : ℕ) → IsAct T k (Flushes t l) → is_ignored T ranges k ≡ false
 flush-told T ranges k t l (e, is, flushes) = ap (is_event_ignored ranges) is ∙ flush-op T.format ranges e.thread t l e.op flushes

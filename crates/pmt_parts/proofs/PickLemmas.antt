@@ -1,19 +1,5 @@
 -- Some events of a part, by their numbers there and in the whole.
-use Rattle.std.proofs.Common.{◌≡◌, ℕ, zero, suc, ◌+◌, ◌-◌, ◌<◌, ◌≤◌, inl, inr, List, [], ◌∷◌, ◌++◌, length, take, Option, Some, None, filter_map, get_or, refl, sym, ap, subst, ◌∙◌, arith}
-use Rattle.std.specs.Prelude.{◌↔◌}
-use Rattle.std.proofs.Math.Seq.{take-suc}
-use Rattle.std.proofs.lemmas.Bool.{le-leb, lt-leb, cases_lt}
-use Rattle.pmt_laws.specs.Prelude.{Event, Recording, event, IsRising, Has, cut, matching_place}
-use Rattle.pmt_laws.proofs.CutLemmas.{has-above, place-low}
-use Rattle.pmt_slices.specs.Slices.{IsSubsequence}
-use Rattle.pmt_slices.proofs.CuttingLemmas.{kept-event, later-origin}
-use Rattle.pmt_parts.specs.Making.{number_in, through}
-
-place-in : (k : ℕ) (ks : List ℕ) (n : ℕ) → k ≤ n → matching_place (k ∷ ks) n ≡ suc (matching_place ks n)
-place-in k ks n h = rw (le-leb k n h) refl
-
-place-out : (k : ℕ) (ks : List ℕ) (n : ℕ) → n < k → matching_place (k ∷ ks) n ≡ matching_place ks n
-place-out k ks n h = rw (lt-leb k n h) refl
+use Rattle.pmt_parts.proofs.Prelude.{◌≡◌, ℕ, zero, suc, ◌+◌, ◌-◌, ◌<◌, ◌≤◌, inl, inr, List, [], ◌∷◌, ◌++◌, length, take, Option, Some, None, filter_map, get_or, refl, sym, ap, subst, ◌∙◌, arith, ◌↔◌, take-suc, cases_lt, Event, Recording, event, IsRising, Has, cut, matching_place, has-above, place-low, IsSubsequence, kept-event, later-origin, number_in, through, place-in, place-out}
 
 -- ---- One event
 

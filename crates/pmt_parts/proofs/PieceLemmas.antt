@@ -1,12 +1,6 @@
 -- Lines at the front of some bytes.
-use Rattle.std.proofs.Common.{◌≡◌, ◌≢◌, eq-eqb, ℕ, suc, ◌+◌, ◌-◌, ◌<◌, ◌≤◌, ◌⊎◌, inr, Bool, true, false, List, [], ◌∷◌, ◌++◌, length, take, drop, slice_range, get_or, Option, None, Some, refl, sym, ap, subst, ◌∙◌, arith}
-use Rattle.std.specs.Prelude.{◌==◌, if◌then◌else◌}
-use Rattle.std.specs.Io.KnownBytes.{Consumes, Keeps, prepend_known}
-use Rattle.std.proofs.lemmas.Bool.{ne_eqb}
-use Rattle.std.proofs.lemmas.List.{append_assoc, length-take, take-append-drop}
+use Rattle.pmt_parts.proofs.Prelude.{◌≡◌, ◌≢◌, eq-eqb, ℕ, suc, ◌+◌, ◌-◌, ◌<◌, ◌≤◌, ◌⊎◌, inr, Bool, true, false, List, [], ◌∷◌, ◌++◌, length, take, drop, slice_range, get_or, Option, None, Some, refl, sym, ap, subst, ◌∙◌, arith, ◌==◌, if◌then◌else◌, Consumes, Keeps, prepend_known, ne_eqb, append_assoc, length-take, take-append-drop, take-suc, line_count, EndsLine, IsFront, Consumes-trans, Consumes-kept}
 use Rattle.pmt_text.proofs.PieceLemmas.{slice_range-skip, slice_range-taken}
-use Rattle.std.proofs.Math.Seq.{take-suc}
-use Rattle.pmt_parts.specs.Cutting.{line_count, EndsLine, IsFront}
 
 line_count-cons : (b : ℕ) (xs : List ℕ) → line_count (b ∷ xs) ≡ (if b == 10 then 1 else 0) + line_count xs
 line_count-cons b xs = go (b == 10)
@@ -33,22 +27,6 @@ ends-line bytes i within is = (take i bytes, take-suc bytes i 0 within ∙ ap (�
 
 -- ---- What is still to come
 
-pub prepend-none : (known : Option (List ℕ)) → prepend_known [] known ≡ known
-prepend-none None = refl
-prepend-none (Some xs) = refl
-
-pub consumes-kept : (a b c : Option (List ℕ)) (xs : List ℕ) → Consumes a b xs → Keeps b c → Consumes a c xs
-consumes-kept None b c xs takes keeps = tt
-consumes-kept (Some ws) None c xs takes keeps = absurd takes
-consumes-kept (Some ws) (Some bs) None xs takes keeps = absurd keeps
-consumes-kept (Some ws) (Some bs) (Some cs) xs takes keeps = takes ∙ ap (λ ys. xs ++ ys) (sym keeps)
-
-pub consumes-both : (a b c : Option (List ℕ)) (xs ys : List ℕ) → Consumes a b xs → Consumes b c ys → Consumes a c (xs ++ ys)
-consumes-both None b c xs ys first second = tt
-consumes-both (Some ws) None c xs ys first second = absurd first
-consumes-both (Some ws) (Some bs) None xs ys first second = absurd second
-consumes-both (Some ws) (Some bs) (Some cs) xs ys first second = first ∙ ap (λ zs. xs ++ zs) second ∙ sym (append_assoc xs ys cs)
-
 pub consumes-held : (old front new : List ℕ) (known : Option (List ℕ)) → old ≡ front ++ new → Consumes (prepend_known old known) (prepend_known new known) front
 consumes-held old front new None split = tt
 consumes-held old front new (Some xs) split = ap (λ hs. hs ++ xs) split ∙ append_assoc front new xs
@@ -68,7 +46,7 @@ pub added-more : (old mid kept new : Option (List ℕ)) (most left lines : ℕ) 
 added-more old mid kept new most left lines before text after held front so_far keeps takes found grown = record {
   piece = so_far.piece ++ front;
   added = grown ∙ ap (λ xs. xs ++ front) so_far.added ∙ append_assoc before so_far.piece front;
-  next = consumes-both old kept new so_far.piece front (consumes-kept old mid kept so_far.piece so_far.next keeps) takes;
+  next = Consumes-trans old kept new so_far.piece front (Consumes-kept old mid kept so_far.piece so_far.next keeps) takes;
   count = omega (arith, line_count-append so_far.piece front, so_far.count, found.count, found.few);
   full = λ none. let x = found.full (omega (arith, none, found.few)) in inr (so_far.piece ++ x.0, ap (λ xs. so_far.piece ++ xs) x.1 ∙ sym (append_assoc so_far.piece x.0 (10 ∷ [])));
 }

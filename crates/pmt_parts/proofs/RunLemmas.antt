@@ -1,23 +1,8 @@
 -- A run from the first part to the last.
-use Rattle.std.proofs.Common.{◌≡◌, ℕ, ◌+◌, ◌-◌, ◌≤◌, ◌⊎◌, inl, inr, List, [], ◌∷◌, ◌++◌, length, length-append, append-nil, append_assoc, take, drop, slice_range, min, Option, None, Some, refl, sym, ap, ap₂, subst, ◌∙◌, arith}
-use Rattle.std.specs.Prelude.{IfSome}
-use Rattle.std.specs.Io.KnownBytes.{Consumes, IsAtEnd, Keeps}
-use Rattle.std.proofs.lemmas.Bool.{cases_lt}
-use Rattle.std.proofs.lemmas.Grind.{flat_map-append}
-use Rattle.std.proofs.lemmas.List.{append_cancel_left, drop_at, drop-drop, take_all}
-use Rattle.std.proofs.Math.Seq.{take-add}
+use Rattle.pmt_parts.proofs.Prelude.{◌≡◌, ℕ, ◌+◌, ◌-◌, ◌≤◌, ◌⊎◌, inl, inr, List, [], ◌∷◌, ◌++◌, length, length-append, append-nil, append_assoc, take, drop, slice_range, min, Option, None, Some, refl, sym, ap, ap₂, subst, ◌∙◌, arith, IfSome, Consumes, IsAtEnd, Keeps, cases_lt, flat_map-append, append_cancel_left, drop_at, drop-drop, take_all, take-add, Event, Layout, Recording, IsTrace, IsEventIn, AllByRecursion, flat_map, Coming, judged, whole, ended, event_line, event_text, header, spelling, ByteRange, IsWellFormed, Part, line_count, IsPartOf, ComesNext, answered, FollowOn, AreAllParts, IsCutText, KeepsTo, BeginsWith, IsCutSoFar, Extends, ReadsOn, Consumes-trans, Consumes-kept}
 use Rattle.std.proofs.lemmas.List.Concat.{flat_map-cons}
-use Rattle.pmt_laws.specs.Prelude.{Event, Layout, Recording, IsTrace, IsEventIn, AllByRecursion, flat_map}
-use Rattle.pmt_text.specs.Coming.{Coming, judged, whole}
-use Rattle.pmt_text.specs.Spelling.{ended, event_line, event_text, header, spelling}
 use Rattle.pmt_text.proofs.WholeLemmas.{read_is_spelled}
-use Rattle.pmt_asked.specs.declared.ignoring.ByteRange.{ByteRange}
-use Rattle.pmt_part_laws.specs.Parts.{IsWellFormed}
-use Rattle.pmt_parts.specs.declared.part.Part.{Part}
-use Rattle.pmt_parts.specs.Cutting.{line_count}
-use Rattle.pmt_parts.specs.Making.{IsPartOf, ComesNext}
-use Rattle.pmt_parts.proofs.PieceLemmas.{consumes-both, consumes-kept, line_count-append}
-use Rattle.pmt_parts.specs.Runs.{answered, FollowOn, AreAllParts, IsCutText, KeepsTo, BeginsWith, IsCutSoFar, Extends, ReadsOn}
+use Rattle.pmt_parts.proofs.PieceLemmas.{line_count-append}
 use Rattle.pmt_parts.proofs.AnsweredLemmas.{answered-is}
 
 -- ---- Parts that follow on
@@ -157,7 +142,7 @@ pub next-cut : (ranges : List ByteRange) (most overlap : ℕ) (old mid new : Opt
     (begun.before ≡ part.end) × (begun.end ≡ part.end) → ReadsOn most mid new begun next → IsCutSoFar ranges overlap old new (parts ++ part ∷ []) next
 next-cut ranges most overlap old mid new parts part begun next so_far made format place ends more = record {
   read = grown S B.events;
-  text = subst (Consumes old new) (spelling-grown S B.events) (consumes-both old mid new (spelling S) (flat_map event_text B.events) so_far.text more.text);
+  text = subst (Consumes old new) (spelling-grown S B.events) (Consumes-trans old mid new (spelling S) (flat_map event_text B.events) so_far.text more.text);
   well = record { format = so_far.well.format; each = all-both (IsEventIn S.format) S.events B.events so_far.well.each (subst (λ f. AllByRecursion (IsEventIn f) B.events) same more.is_trace.each) };
   ends = omega (arith, more.extends.ends, ends.1, so_far.ends, length-append S.events B.events);
   format = more.extends.same_format ∙ same;
@@ -192,7 +177,7 @@ pub kept-cut : (ranges : List ByteRange) (overlap : ℕ) (old mid new : Option (
     IsCutSoFar ranges overlap old new parts part
 kept-cut ranges overlap old mid new parts part so_far keeps = record {
   read = so_far.read;
-  text = consumes-kept old mid new (spelling so_far.read) so_far.text keeps;
+  text = Consumes-kept old mid new (spelling so_far.read) so_far.text keeps;
   well = so_far.well;
   ends = so_far.ends;
   format = so_far.format;
@@ -205,7 +190,7 @@ pub last-cut : (ranges : List ByteRange) (overlap : ℕ) (old mid new : Option (
 last-cut ranges overlap old mid new parts part so_far keeps end = (
   S,
   so_far.well,
-  known-whole old new (spelling S) (consumes-kept old mid new (spelling S) so_far.text keeps) end,
+  known-whole old new (spelling S) (Consumes-kept old mid new (spelling S) so_far.text keeps) end,
   all-parts S ranges overlap (parts ++ part ∷ [])
       (subst (λ n. FollowOn S ranges overlap 0 0 n (parts ++ part ∷ [])) so_far.ends (so_far.follow S (refl, [], sym (append-nil S.events)))),
 )

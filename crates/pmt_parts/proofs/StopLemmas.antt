@@ -1,23 +1,15 @@
 -- Why a run over a text ends before the text does.
-use Rattle.std.proofs.Common.{◌≡◌, ℕ, List, ◌++◌, Option, Result, Ok, Err, sym, subst}
-use Rattle.std.specs.Prelude.{IfErr}
-use Rattle.pmt_model.specs.Values.{Layout}
-use Rattle.pmt_text.specs.Spelling.{ended, header}
-use Rattle.pmt_parts.specs.declared.part.Part.{Part}
+use Rattle.pmt_parts.proofs.Prelude.{◌≡◌, ℕ, List, ◌++◌, Option, Result, Ok, Err, sym, subst, IfErr, Layout, ended, header, Part, IsPiece, IsRefusedBehind, IsRefusedPast, IsRefusedText, RefusedAs, StopsAs}
 use Rattle.pmt_parts.specs.declared.taker.PartError.{PartError}
-use Rattle.pmt_parts.specs.declared.taker.PartError.TheVariants.{Read, Refused, TooMany, OutOfMemory}
+use Rattle.pmt_parts.specs.declared.taker.PartError.TheVariants.{Refused}
 use Rattle.pmt_parts.specs.declared.taker.Refusal.{Refusal}
 use Rattle.pmt_parts.specs.declared.taker.Stop.{Stop}
 use Rattle.pmt_parts.specs.declared.taker.Stop.TheVariants as stops
-use Rattle.pmt_parts.specs.Cutting.{IsPiece}
-use Rattle.pmt_parts.specs.Runs.{IsRefusedBehind, IsRefusedPast, IsRefusedText, RefusedAs, StopsAs}
 
 -- what is refused in one way is refused in another
 pub refused-as : (P Q : Refusal → Type 0) (e : PartError) → ((r : Refusal) → P r → Q r) → RefusedAs P e → RefusedAs Q e
 refused-as P Q (Refused r) so is = so r is
-refused-as P Q (Read e) so is = tt
-refused-as P Q TooMany so is = tt
-refused-as P Q OutOfMemory so is = tt
+refused-as P Q e so is = tt
 
 pub refused-was : {A : Type 0} (P Q : Refusal → Type 0) (r : Result A PartError) (e : PartError) → r ≡ Err e → ((x : Refusal) → P x → Q x) → RefusedAs P e → IfErr r (RefusedAs Q)
 refused-was {A = A} P Q r e told so is = subst (λ (x : Result A PartError). IfErr x (RefusedAs Q)) (sym told) (refused-as P Q e so is)

@@ -1,16 +1,13 @@
 -- The events of a text of any length, piece by piece.
-use Rattle.std.proofs.Common.{◌≡◌, ℕ, suc, ◌+◌, ◌<◌, ◌≤◌, ◌⊎◌, length-append, append-nil, lt-ltb, inl, inr, Bool, true, false, cond, ◌==◌, nat_lt, if◌then◌else◌, List, [], ◌∷◌, ◌++◌, length, Some, None, Result, Ok, Err, append_assoc, refl, sym, ap, subst, ◌∙◌, arith}
-use Rattle.pmt_laws.specs.Prelude.{onto_first, event_limit}
+use Rattle.pmt_parts.proofs.Prelude.{◌≡◌, ℕ, suc, ◌+◌, ◌<◌, ◌≤◌, ◌⊎◌, length-append, append-nil, lt-ltb, inl, inr, Bool, true, false, cond, ◌==◌, nat_lt, if◌then◌else◌, List, [], ◌∷◌, ◌++◌, length, Some, None, Result, Ok, Err, append_assoc, refl, sym, ap, subst, ◌∙◌, arith, onto_first, event_limit, Items, Coming, ends_with, fault_at, item_then, rest_fault, lines_coming, text_lines, header_then, whole, EndsLine, line_count, long_item, long_coming, items_then, EventsOfPieces, FaultsOfPieces}
 use Rattle.pmt_text.specs.declared.kind.TextKind.{TextKind}
 use Rattle.pmt_text.specs.declared.kind.TextKind.TheVariants.{Truncated, TooManyEvents}
 use Rattle.pmt_text.specs.declared.kind.TextError.{TextError}
 use Rattle.pmt_text.specs.declared.kind.SourceError.TheVariants.{Text}
-use Rattle.pmt_text.specs.Coming.{Items, Coming, ends_with, fault_at, item_then, rest_fault, lines_coming, text_lines, header_then, whole}
 use Rattle.pmt_text.specs.Judging.{line_judged}
 use Rattle.pmt_text.proofs.ComingLemmas.{text_lines-nonempty}
 use Rattle.pmt_text.proofs.ReaderLemmas.{judged-lines}
 use Rattle.pmt_text.proofs.TextLemmas.{first_line}
-use Rattle.pmt_parts.specs.Cutting.{EndsLine, line_count, long_item, long_coming, items_then, EventsOfPieces, FaultsOfPieces}
 
 -- ---- Lines
 

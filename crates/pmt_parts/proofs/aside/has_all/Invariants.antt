@@ -1,5 +1,4 @@
-use Rattle.std.proofs.Common.{ℕ, ◌≤◌, ◌<◌}
-use Rattle.pmt_parts.specs.Making.{HasByte}
+use Rattle.pmt_parts.proofs.Prelude.{ℕ, ◌≤◌, ◌<◌, HasByte}
 use Rattle.pmt_parts.proofs.aside.has_all.Given as goal
 
 abbrev pub invariant-loop-byte : goal.invariant-loop-byte

@@ -1,6 +1,4 @@
-use Rattle.std.proofs.Common.{ℕ, ◌≤◌, ◌<◌, ◌⊎◌}
-use Rattle.std.specs.Prelude.{◌↔◌}
-use Rattle.pmt_parts.specs.Making.{HasByte}
+use Rattle.pmt_parts.proofs.Prelude.{ℕ, ◌≤◌, ◌<◌, ◌⊎◌, ◌↔◌, HasByte}
 use Rattle.pmt_parts.proofs.aside.note.Given as goal
 
 abbrev pub invariant-loop-byte : goal.invariant-loop-byte

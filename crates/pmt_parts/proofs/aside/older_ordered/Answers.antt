@@ -1,5 +1,4 @@
-use Rattle.std.proofs.Common.{◌≡◌, ◌+◌, ◌<◌, suc, length, sym, ap, subst, arith}
-use Rattle.pmt_parts.specs.Making.{IsMet}
+use Rattle.pmt_parts.proofs.Prelude.{◌≡◌, ◌+◌, ◌<◌, suc, length, sym, ap, subst, arith, IsMet}
 use Rattle.pmt_parts.proofs.MetLemmas.{op-at, ordered-within}
 use Rattle.pmt_parts.proofs.aside.older_ordered.Goals as goal
 

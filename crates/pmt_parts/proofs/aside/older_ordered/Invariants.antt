@@ -1,5 +1,4 @@
-use Rattle.std.proofs.Common.{◌≤◌}
-use Rattle.pmt_parts.specs.Making.{IsMet}
+use Rattle.pmt_parts.proofs.Prelude.{◌≤◌, IsMet}
 use Rattle.pmt_parts.proofs.aside.older_ordered.Given as goal
 
 abbrev pub invariant-loop-index : goal.invariant-loop-index

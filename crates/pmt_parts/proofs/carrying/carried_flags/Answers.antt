@@ -1,6 +1,5 @@
-use Rattle.std.proofs.Common.{rules, ◌≡◌, ◌-◌, ◌<◌, suc, length, ap, subst, ◌∙◌, arith}
+use Rattle.pmt_parts.proofs.Prelude.{rules, ◌≡◌, ◌-◌, ◌<◌, suc, length, ap, subst, ◌∙◌, arith, IsLater, AreCarried}
 use Rattle.pmt_explain.proofs.FollowingLemmas.{event-at}
-use Rattle.pmt_parts.specs.Meeting.{IsLater, AreCarried}
 use Rattle.pmt_parts.proofs.CarryLemmas.{marks-more, length-set-same}
 use Rattle.pmt_parts.proofs.carrying.carried_flags.Goals as goal
 

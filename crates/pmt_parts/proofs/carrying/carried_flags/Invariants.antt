@@ -1,5 +1,4 @@
-use Rattle.std.proofs.Common.{◌≡◌, length}
-use Rattle.pmt_parts.specs.Meeting.{IsLater, AreCarried}
+use Rattle.pmt_parts.proofs.Prelude.{◌≡◌, length, IsLater, AreCarried}
 use Rattle.pmt_parts.proofs.carrying.carried_flags.Given as goal
 
 abbrev pub invariant-loop-index : goal.invariant-loop-index

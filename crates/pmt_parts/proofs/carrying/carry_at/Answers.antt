@@ -1,5 +1,4 @@
-use Rattle.std.proofs.Common.{◌≡◌, min, sym, ap, subst, ◌∙◌, true, arith}
-use Rattle.pmt_tables.specs.Flags.{is_kept_at}
+use Rattle.pmt_parts.proofs.Prelude.{◌≡◌, min, sym, ap, subst, ◌∙◌, true, arith, is_kept_at}
 use Rattle.pmt_parts.proofs.CarryLemmas.{carry-marked}
 use Rattle.pmt_parts.proofs.carrying.carry_at.Goals as goal
 

@@ -1,10 +1,5 @@
-use Rattle.std.proofs.Common.{◌≡◌, ℕ, Bool, ◌-◌, ◌++◌, filter, sym, ap, subst, ◌∙◌}
-use Rattle.std.specs.Prelude.{not}
+use Rattle.pmt_parts.proofs.Prelude.{◌≡◌, ℕ, Bool, ◌-◌, ◌++◌, filter, sym, ap, subst, ◌∙◌, not, IsRising, is_ignored, stretch, AreChosen}
 use Rattle.pmt_tables.proofs.FlagLemmas.{rising-no_fall}
-use Rattle.pmt_model.specs.Selections.{IsRising}
-use Rattle.pmt_asked.specs.Choosing.{is_ignored}
-use Rattle.pmt_part_laws.specs.Parts.{stretch}
-use Rattle.pmt_parts.specs.Making.{AreChosen}
 use Rattle.pmt_parts.proofs.ChosenLemmas.{chosen_list, chosen-rising, chosen-are}
 use Rattle.pmt_parts.proofs.part.chosen_events.Goals as goal
 

@@ -1,7 +1,4 @@
-use Rattle.std.proofs.Common.{◌≡◌, ◌-◌, ◌≤◌, min, refl, subst, ap, ◌∙◌, arith}
-use Rattle.std.proofs.lemmas.Grind.{elements}
-use Rattle.pmt_model.specs.Selections.{matching_place}
-use Rattle.pmt_parts.specs.Making.{through, AreChosen}
+use Rattle.pmt_parts.proofs.Prelude.{◌≡◌, ◌-◌, ◌≤◌, min, refl, subst, ap, ◌∙◌, arith, elements, matching_place, through, AreChosen}
 use Rattle.pmt_parts.proofs.FollowLemmas.{next-is, chosen-within}
 use Rattle.pmt_parts.proofs.part.next_part.Goals as goal
 

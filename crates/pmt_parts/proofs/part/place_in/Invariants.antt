@@ -1,5 +1,4 @@
-use Rattle.std.proofs.Common.{◌≡◌, ◌≤◌, take}
-use Rattle.pmt_model.specs.Selections.{matching_place}
+use Rattle.pmt_parts.proofs.Prelude.{◌≡◌, ◌≤◌, take, matching_place}
 use Rattle.pmt_parts.proofs.part.place_in.Given as goal
 
 abbrev pub invariant-loop-number : goal.invariant-loop-number

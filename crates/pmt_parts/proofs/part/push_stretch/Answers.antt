@@ -1,5 +1,4 @@
-use Rattle.std.proofs.Common.{inr, arith}
-use Rattle.std.proofs.lemmas.Grind.{elements}
+use Rattle.pmt_parts.proofs.Prelude.{inr, arith, elements}
 use Rattle.pmt_parts.proofs.ChosenLemmas.{stretch-pushed}
 use Rattle.pmt_parts.proofs.part.push_stretch.Goals as goal
 

@@ -1,5 +1,4 @@
-use Rattle.std.proofs.Common.{◌≡◌, ◌-◌, ◌≤◌, ◌⊎◌, ◌++◌}
-use Rattle.pmt_part_laws.specs.Parts.{stretch}
+use Rattle.pmt_parts.proofs.Prelude.{◌≡◌, ◌-◌, ◌≤◌, ◌⊎◌, ◌++◌, stretch}
 use Rattle.pmt_parts.proofs.part.push_stretch.Given as goal
 
 abbrev pub invariant-loop-number : goal.invariant-loop-number

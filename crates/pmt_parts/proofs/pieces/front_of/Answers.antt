@@ -1,7 +1,6 @@
 use Rattle.std.proofs.Common.{arith}
 use Rattle.pmt_parts.proofs.PieceLemmas.{count-line, count-other, front-full}
 use Rattle.pmt_parts.proofs.pieces.front_of.Goals as goal
-use Rattle.pmt_parts.proofs.pieces.front_of.Goals.{then-bytes-index-eq10+else-lines-most, else-bytes-index-eq10}
 
 pub returns-then-lines-most-clause-front : goal.returns-then-lines-most-clause-front
 returns-then-lines-most-clause-front c =
@@ -13,10 +12,10 @@ loop-index-preserved c =
     let l = c.loop-index in
     let bytes = c.args.bytes.now in
     elim c.if-bytes-index-eq10.branch [
-      | then-bytes-index-eq10+else-lines-most w ↦
+      | goal.then-bytes-index-eq10+else-lines-most w ↦
           let more = count-line bytes l.index c.loop-index-test.true w.if-bytes-index-eq10.true in
           (omega (arith, more, l.invariant.0, w.lines-is), omega (arith, l.invariant.1, w.lines-is, w.if-lines-most.false))
-      | else-bytes-index-eq10 w ↦
+      | goal.else-bytes-index-eq10 w ↦
           let same = count-other bytes l.index c.loop-index-test.true w.if-bytes-index-eq10.false in
           (omega (arith, same, l.invariant.0, w.lines-is), omega (arith, l.invariant.1, w.lines-is))
     ]

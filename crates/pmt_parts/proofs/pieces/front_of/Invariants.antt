@@ -1,5 +1,4 @@
-use Rattle.std.proofs.Common.{◌≡◌, ◌<◌, take}
-use Rattle.pmt_parts.specs.Cutting.{line_count}
+use Rattle.pmt_parts.proofs.Prelude.{◌≡◌, ◌<◌, take, line_count}
 use Rattle.pmt_parts.proofs.pieces.front_of.Given as goal
 
 abbrev pub invariant-loop-index : goal.invariant-loop-index

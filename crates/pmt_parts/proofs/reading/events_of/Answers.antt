@@ -1,7 +1,6 @@
-use Rattle.std.proofs.Common.{refl, sym, ap, subst, ◌∙◌}
+use Rattle.pmt_parts.proofs.Prelude.{refl, sym, ap, subst, ◌∙◌, Refuses, judged}
 use Rattle.pmt_text.specs.declared.kind.ReadError.{ReadError}
 use Rattle.pmt_text.specs.declared.kind.ReadError.TheVariants.{Text}
-use Rattle.pmt_text.specs.Coming.{Refuses, judged}
 use Rattle.pmt_parts.proofs.RunLemmas.{spelled-whole}
 use Rattle.pmt_parts.proofs.reading.events_of.Goals as goal
 

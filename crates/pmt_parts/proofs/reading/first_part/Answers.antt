@@ -1,7 +1,4 @@
-use Rattle.std.proofs.Common.{◌≡◌, ◌+◌, ◌≤◌, [], ◌++◌, Err, inl, arith, rules, sym, ap, subst, ◌∙◌}
-use Rattle.std.specs.Io.KnownBytes.{Consumes}
-use Rattle.pmt_text.specs.Spelling.{spelling}
-use Rattle.pmt_parts.specs.Reading.{coming}
+use Rattle.pmt_parts.proofs.Prelude.{◌≡◌, ◌+◌, ◌≤◌, [], ◌++◌, Err, inl, arith, rules, sym, ap, subst, ◌∙◌, Consumes, spelling, coming}
 use Rattle.pmt_parts.proofs.RunLemmas.{first-cut, first-few}
 use Rattle.pmt_parts.proofs.StopLemmas.{refused-behind, refused-none, refused-was}
 use Rattle.pmt_parts.proofs.reading.first_part.Goals as goal

@@ -1,9 +1,4 @@
-use Rattle.std.proofs.Common.{◌≡◌, ◌-◌, ◌++◌, Err, length, arith, rules, ap, subst, ◌∙◌}
-use Rattle.std.proofs.lemmas.Result.{on_ok_weaker}
-use Rattle.std.specs.Io.KnownBytes.{Consumes}
-use Rattle.pmt_model.specs.Traces.{IsTrace}
-use Rattle.pmt_text.specs.Spelling.{ended, header}
-use Rattle.pmt_parts.specs.Reading.{coming}
+use Rattle.pmt_parts.proofs.Prelude.{◌≡◌, ◌-◌, ◌++◌, Err, length, arith, rules, ap, subst, ◌∙◌, on_ok_weaker, Consumes, IsTrace, ended, header, coming}
 use Rattle.pmt_parts.proofs.RunLemmas.{body-of, next-few}
 use Rattle.pmt_parts.proofs.StopLemmas.{refused-behind, refused-none, refused-was}
 use Rattle.pmt_parts.proofs.reading.read_on.Goals as goal

@@ -1,6 +1,4 @@
-use Rattle.std.proofs.Common.{◌≡◌, [], ◌∷◌, ◌++◌, Err, inl, inr, refl, subst, rules}
-use Rattle.pmt_parts.specs.Reading.{coming}
-use Rattle.pmt_parts.specs.Runs.{IsCutSoFar, KeepsTo, IsRefusedBehind, RefusedAs}
+use Rattle.pmt_parts.proofs.Prelude.{◌≡◌, [], ◌∷◌, ◌++◌, Err, inl, inr, refl, subst, rules, coming, IsCutSoFar, KeepsTo, IsRefusedBehind, RefusedAs}
 use Rattle.pmt_parts.proofs.RunLemmas.{all-both, kept-cut, last-cut}
 use Rattle.pmt_parts.proofs.StopLemmas.{refused-as, stops-in}
 use Rattle.pmt_parts.proofs.run.give_parts.Goals as goal

@@ -1,8 +1,4 @@
-use Rattle.std.proofs.Common.{false, List, []}
-use Rattle.std.specs.List.{AllByRecursion}
-use Rattle.pmt_parts.specs.declared.part.Part.{Part}
-use Rattle.pmt_parts.specs.Reading.{coming}
-use Rattle.pmt_parts.specs.Runs.{IsCutSoFar, KeepsTo}
+use Rattle.pmt_parts.proofs.Prelude.{false, List, [], AllByRecursion, Part, coming, IsCutSoFar, KeepsTo}
 use Rattle.pmt_parts.proofs.run.give_parts.Given as goal
 
 abbrev pub invariant-loop : goal.invariant-loop

@@ -1,5 +1,4 @@
-use Rattle.std.proofs.Common.{rules}
-use Rattle.pmt_parts.specs.Reading.{coming}
+use Rattle.pmt_parts.proofs.Prelude.{rules, coming}
 use Rattle.pmt_parts.proofs.RunLemmas.{kept-to, next-cut}
 use Rattle.pmt_parts.proofs.StopLemmas.{refused-as, refused-past}
 use Rattle.pmt_parts.proofs.run.part_after.Goals as goal

@@ -1,5 +1,4 @@
-use Rattle.std.proofs.Common.{refl, ◌∙◌}
-use Rattle.std.proofs.lemmas.Result.{on_ok_weaker}
+use Rattle.pmt_parts.proofs.Prelude.{refl, ◌∙◌, on_ok_weaker}
 use Rattle.pmt_parts.proofs.MetLemmas.{met-store, met-neither}
 use Rattle.pmt_parts.proofs.aside.Met.meet.Goals as goal
 

@@ -1,6 +1,4 @@
-use Rattle.std.proofs.Common.{refl, ap, subst, ◌∙◌, arith}
-use Rattle.std.specs.Prelude.{not, nat_eq}
-use Rattle.std.specs.List.{list_any}
+use Rattle.pmt_parts.proofs.Prelude.{refl, ap, subst, ◌∙◌, arith, not, nat_eq, list_any}
 use Rattle.pmt_parts.proofs.LaterLemmas.{IsAdded, later-fenced, later-open}
 use Rattle.pmt_parts.proofs.later.Later.flush.Goals as goal
 

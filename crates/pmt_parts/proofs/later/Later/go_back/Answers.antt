@@ -1,6 +1,4 @@
-use Rattle.std.proofs.Common.{◌≡◌, sym, ap, ◌∙◌}
-use Rattle.std.proofs.lemmas.Result.{IfOk-weaker}
-use Rattle.pmt_laws.specs.Prelude.{line_of, Stores, Flushes, Clflushes, Fences, Asserts, act_of}
+use Rattle.pmt_parts.proofs.Prelude.{◌≡◌, sym, ap, ◌∙◌, IfOk-weaker, line_of, Stores, Flushes, Clflushes, Fences, Asserts, act_of}
 use Rattle.pmt_parts.proofs.LaterLemmas.{later-assert}
 use Rattle.pmt_parts.proofs.later.Later.go_back.Goals as goal
 

@@ -1,6 +1,4 @@
-use Rattle.std.proofs.Common.{suc, sym, subst}
-use Rattle.std.specs.Prelude.{not}
-use Rattle.pmt_parts.specs.Meeting.{TellsCarried}
+use Rattle.pmt_parts.proofs.Prelude.{suc, sym, subst, not, TellsCarried}
 use Rattle.pmt_parts.proofs.LaterLemmas.{later-store}
 use Rattle.pmt_parts.proofs.later.Later.store.Goals as goal
 

@@ -1,6 +1,4 @@
-use Rattle.std.proofs.Common.{◌≡◌, ◌<◌, length, Some, get_or, sym, ap, ◌∙◌, arith}
-use Rattle.std.proofs.lemmas.Option.{slice_get-get_or}
-use Rattle.pmt_model.specs.Traces.{Recording}
+use Rattle.pmt_parts.proofs.Prelude.{◌≡◌, ◌<◌, length, Some, get_or, sym, ap, ◌∙◌, arith, slice_get-get_or, Recording}
 use Rattle.pmt_parts.proofs.GrowLemmas.{events-more, next-comes}
 use Rattle.pmt_parts.proofs.part.Part.extend.Goals as goal
 

@@ -1,7 +1,4 @@
-use Rattle.std.proofs.Common.{◌≡◌, ◌+◌, ◌++◌, List, take}
-use Rattle.pmt_model.specs.Traces.{Recording}
-use Rattle.pmt_asked.specs.declared.ignoring.ByteRange.{ByteRange}
-use Rattle.pmt_parts.specs.Making.{IsPartOf, ComesNext}
+use Rattle.pmt_parts.proofs.Prelude.{◌≡◌, ◌+◌, ◌++◌, List, take, Recording, ByteRange, IsPartOf, ComesNext}
 use Rattle.pmt_parts.proofs.part.Part.extend.Given as goal
 
 abbrev pub invariant-loop-event : goal.invariant-loop-event

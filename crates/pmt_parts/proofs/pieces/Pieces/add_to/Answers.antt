@@ -1,7 +1,4 @@
-use Rattle.std.proofs.Common.{arith, sym, ap, subst}
-use Rattle.std.proofs.lemmas.Grind.{elements}
-use Rattle.std.specs.Io.KnownBytes.{Consumes, prepend_known}
-use Rattle.pmt_parts.specs.Reading.{coming, held}
+use Rattle.pmt_parts.proofs.Prelude.{arith, sym, ap, subst, elements, Consumes, prepend_known, coming, held}
 use Rattle.pmt_parts.proofs.PieceLemmas.{consumes-held, added-more}
 use Rattle.pmt_parts.proofs.pieces.Pieces.add_to.Goals as goal
 

@@ -1,5 +1,4 @@
-use Rattle.std.proofs.Common.{◌+◌, ◌-◌, length}
-use Rattle.pmt_parts.specs.Reading.{coming}
+use Rattle.pmt_parts.proofs.Prelude.{◌+◌, ◌-◌, length, coming}
 use Rattle.pmt_parts.proofs.PieceLemmas.{IsAdded}
 use Rattle.pmt_parts.proofs.pieces.Pieces.add_to.Given as goal
 

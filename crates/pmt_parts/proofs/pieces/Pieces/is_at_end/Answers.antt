@@ -1,5 +1,4 @@
-use Rattle.std.proofs.Common.{arith}
-use Rattle.std.proofs.lemmas.Grind.{elements}
+use Rattle.pmt_parts.proofs.Prelude.{arith, elements}
 use Rattle.pmt_parts.proofs.pieces.Pieces.is_at_end.Goals as goal
 
 pub returns-clause-end : goal.returns-clause-end

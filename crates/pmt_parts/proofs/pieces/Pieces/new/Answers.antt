@@ -1,5 +1,5 @@
-use Rattle.pmt_parts.proofs.PieceLemmas.{prepend-none}
+use Rattle.std.proofs.KnownBytes.{prepend_known-nil}
 use Rattle.pmt_parts.proofs.pieces.Pieces.new.Goals as goal
 
 pub returns : goal.returns
-returns g c = prepend-none (g.R.Read.remaining c.args.input)
+returns g c = prepend_known-nil (g.R.Read.remaining c.args.input)
