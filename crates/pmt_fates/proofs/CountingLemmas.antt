@@ -1,12 +1,5 @@
 -- The counts of events, one after another.
-use Rattle.std.proofs.Common.{◌≡◌, ◌≢◌, ℕ, ◌*◌, ◌<◌, ◌≤◌, ◌⊎◌, inl, inr, Bool, true, false, ◌==◌, cond, List, [], ◌∷◌, ◌++◌, length, set, refl, sym, ap, ◌∙◌, arith}
-use Rattle.std.proofs.lemmas.Bool.{cases_eq, eq-eqb, ne_eqb}
-use Rattle.std.proofs.lemmas.List.{append-nil, get_or-set_same, get_or-set_other, length_push}
-use Rattle.std.proofs.lemmas.List.Elements.{filter-append}
-use Rattle.std.proofs.lemmas.List.Sums.{count_by-le-length, sum_by_push}
-use Rattle.pmt_laws.specs.Prelude.{Event, event_limit, sum_by}
-use Rattle.pmt_fates.specs.declared.counts.Counts.{Counts}
-use Rattle.pmt_fates.specs.Counting.{AreFew, by_thread, counts_of, is_store, is_clwb, is_clflushopt, is_clflush, is_sfence, is_mfence, is_persist, is_ordered, stored, with_op, counts_in}
+use Rattle.pmt_fates.proofs.Prelude.{◌≡◌, ◌≢◌, ℕ, ◌*◌, ◌<◌, ◌≤◌, ◌⊎◌, inl, inr, Bool, true, false, ◌==◌, cond, List, [], ◌∷◌, ◌++◌, length, set, refl, sym, ap, ◌∙◌, arith, cases_eq, eq-eqb, ne_eqb, append-nil, get_or-set_same, get_or-set_other, length_push, filter-append, count_by-le-length, sum_by_push, Event, event_limit, sum_by, Counts, AreFew, by_thread, counts_of, is_store, is_clwb, is_clflushopt, is_clflush, is_sfence, is_mfence, is_persist, is_ordered, stored, with_op, counts_in}
 
 -- one more event
 pub counts-push : (es : List Event) (e : Event) → counts_of (es ++ e ∷ []) ≡ with_op e.op (counts_of es)

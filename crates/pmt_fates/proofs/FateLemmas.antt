@@ -1,12 +1,5 @@
 -- What becomes of each event, event by event.
-use Rattle.std.proofs.Common.{◌≡◌, ℕ, suc, ◌+◌, ◌<◌, ◌≤◌, ◌⊎◌, inl, inr, Bool, List, [], ◌∷◌, ◌++◌, length, length-append, Some, sym, ap, ◌∙◌, arith}
-use Rattle.std.specs.Prelude.{slice_get, slice_index}
-use Rattle.std.proofs.lemmas.Bool.{cases_lt}
-use Rattle.std.proofs.lemmas.Option.{same_Some}
-use Rattle.pmt_laws.specs.Prelude.{Event, Recording, event}
-use Rattle.pmt_explain.proofs.GroupingLemmas.{get-before, get-last}
-use Rattle.pmt_fates.specs.declared.fate.Fate.{Fate}
-use Rattle.pmt_fates.specs.Fates.{event_fate, is_listed, op_fate}
+use Rattle.pmt_fates.proofs.Prelude.{◌≡◌, ℕ, suc, ◌+◌, ◌<◌, ◌≤◌, ◌⊎◌, inl, inr, Bool, List, [], ◌∷◌, ◌++◌, length, length-append, Some, sym, ap, ◌∙◌, arith, slice_get, slice_index, cases_lt, same_Some, Event, Recording, event, get-before, get-last, Fate, event_fate, is_listed, op_fate}
 
 -- what becomes of the first n events
 pub record AreSoFar (T : Recording) (told dropped safe waited : List ℕ) (n : ℕ) (fates : List Fate) : Type 0 where

@@ -1,13 +1,6 @@
 -- The flushes that wait for fences, event by event.
-use Rattle.std.proofs.Common.{◌≡◌, ◌≢◌, ℕ, suc, ◌+◌, ◌*◌, ◌<◌, ◌≤◌, ◌⊎◌, inl, inr, Bool, true, false, ◌==◌, not, cond, List, [], ◌∷◌, length, set, refl, sym, ap, subst, ◌∙◌, arith}
-use Rattle.std.specs.Prelude.{if◌then◌else◌, nat_lt, slice_index}
+use Rattle.pmt_fates.proofs.Prelude.{◌≡◌, ◌≢◌, ℕ, suc, ◌+◌, ◌*◌, ◌<◌, ◌≤◌, ◌⊎◌, inl, inr, Bool, true, false, ◌==◌, not, cond, List, [], ◌∷◌, length, set, refl, sym, ap, subst, ◌∙◌, arith, if◌then◌else◌, nat_lt, slice_index, cases_eq, eq-eqb, ne_eqb, get_or-set_same, get_or-set_other, length-take, count_by-le-length, sum_by-cons, take_while-cons, Event, event_limit, count_by, prefix_len, sum, take_while, FenceSizes, AreSizes, bar_of, fence_sizes, is_fence, is_fence_of, is_flush_of, waiting, with_size}
 use Rattle.std.proofs.lemmas.Bool.Decides.{nat_tests}
-use Rattle.std.proofs.lemmas.Bool.{cases_eq, eq-eqb, ne_eqb}
-use Rattle.std.proofs.lemmas.List.{get_or-set_same, get_or-set_other, length-take}
-use Rattle.std.proofs.lemmas.List.Sums.{count_by-le-length, sum_by-cons, take_while-cons}
-use Rattle.pmt_laws.specs.Prelude.{Event, event_limit, count_by, prefix_len, sum, take_while}
-use Rattle.pmt_fates.specs.declared.fences.FenceSizes.{FenceSizes}
-use Rattle.pmt_fates.specs.Counting.{AreSizes, bar_of, fence_sizes, is_fence, is_fence_of, is_flush_of, waiting, with_size}
 
 -- one more event
 pub waiting-next : (t : ℕ) (e : Event) (past : List Event) → waiting t (e ∷ past) ≡ cond (is_fence_of t e) 0 (cond (is_flush_of t e) 1 0 + waiting t past)

@@ -1,3 +1,4 @@
+pub mod Prelude
 pub mod FateLemmas
 pub mod MarkLemmas
 pub mod OrderLemmas

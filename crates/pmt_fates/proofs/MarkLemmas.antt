@@ -1,13 +1,7 @@
 -- Numbers of a list, marked one after another.
-use Rattle.std.proofs.Common.{◌≡◌, ◌≢◌, ℕ, zero, suc, ◌+◌, ◌<◌, ◌≤◌, ◌⊎◌, inl, inr, Bool, true, false, List, [], ◌∷◌, length, map, take, get_or, set, get_or-set_same, get_or-set_other, Some, refl, sym, ap, subst, ◌∙◌, arith}
-use Rattle.std.specs.Prelude.{◌==◌, ◌||◌, slice_get}
-use Rattle.std.proofs.lemmas.Bool.{cases_lt, cases_eq, eq-eqb, ne_eqb, lt-ltb, le-ltb}
-use Rattle.std.proofs.lemmas.List.{length-set}
+use Rattle.pmt_fates.proofs.Prelude.{◌≡◌, ◌≢◌, ℕ, zero, suc, ◌+◌, ◌<◌, ◌≤◌, ◌⊎◌, inl, inr, Bool, true, false, List, [], ◌∷◌, length, map, take, get_or, set, get_or-set_same, get_or-set_other, Some, refl, sym, ap, subst, ◌∙◌, arith, ◌==◌, ◌||◌, slice_get, cases_lt, cases_eq, eq-eqb, ne_eqb, lt-ltb, le-ltb, length-set, slice_get-get_or, get_or_from_slice_get, slice_get_within, event_of, is_listed, AreMarks, with_mark}
 use Rattle.std.proofs.lemmas.List.Folds.{list_any_more}
-use Rattle.std.proofs.lemmas.Option.{slice_get-get_or, get_or_from_slice_get, slice_get_within}
 use Rattle.pmt_explain.specs.declared.dropped_event.Dropped.{Dropped}
-use Rattle.pmt_explain.specs.Dropping.{event_of}
-use Rattle.pmt_fates.specs.Fates.{is_listed, AreMarks, with_mark}
 
 or-false : (b : Bool) → (b || false) ≡ b
 or-false true = refl

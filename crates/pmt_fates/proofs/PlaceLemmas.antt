@@ -1,26 +1,8 @@
 -- What places have, all together.
-use Rattle.std.proofs.Common.{◌≡◌, ℕ, zero, suc, ◌+◌, ◌<◌, ◌≤◌, ◌⊎◌, inl, inr, Bool, true, false, cond, List, [], ◌∷◌, ◌++◌, length, map, Option, None, refl, ap, ◌∙◌, arith}
-use Rattle.std.specs.Prelude.{if◌then◌else◌, nat_lt, nat_le, slice_get}
-use Rattle.std.proofs.lemmas.Bool.{cases_lt}
-use Rattle.std.proofs.lemmas.List.Elements.{All-from_recursion}
-use Rattle.std.proofs.lemmas.List.Sorted.{All-permutation, sum_by-IsPermutation}
-use Rattle.std.proofs.lemmas.List.Sums.{sum_by-cons, sum_by_push}
-use Rattle.std.proofs.lemmas.Option.{slice_get_past}
-use Rattle.pmt_laws.specs.Prelude.{Op, Store, Clwb, ClflushOpt, Clflush, Sfence, Mfence, IsPersist, IsOrderedBefore, Recording, event, AllByRecursion, count_by, sum_by}
-use Rattle.pmt_laws.proofs.Histories.{event-some, event-none}
-use Rattle.pmt_explain.specs.Grouping.{Picks, AreGroups}
-use Rattle.pmt_causes.specs.declared.failure_keys.Origin.{Origin}
-use Rattle.pmt_causes.specs.declared.grouping.Group.{Group}
-use Rattle.pmt_causes.specs.declared.grouping.Keyed.{Keyed}
+use Rattle.pmt_fates.proofs.Prelude.{◌≡◌, ℕ, zero, suc, ◌+◌, ◌<◌, ◌≤◌, ◌⊎◌, inl, inr, Bool, true, false, cond, List, [], ◌∷◌, ◌++◌, length, map, Option, None, refl, ap, ◌∙◌, arith, if◌then◌else◌, nat_lt, nat_le, slice_get, cases_lt, All-from_recursion, All-permutation, sum_by-IsPermutation, sum_by-cons, sum_by_push, slice_get_past, Op, Store, Sfence, Mfence, IsPersist, IsOrderedBefore, Recording, event, AllByRecursion, count_by, sum_by, event-some, event-none, Picks, AreGroups, Origin, Group, Keyed, IsIn, Tells, Fate, PlaceRow, SavedBefore, AreFates, fence_fate, flush_fate, op_fate, AddUp, ArePlaces, count_in, fate_at, is_fence_fate, is_flush_fate, is_in_time, is_same, is_store_fate, origin_in, place_items, row_in}
 use Rattle.pmt_causes.specs.Late.{counted, is_fence, is_flush, is_store, op_passes}
-use Rattle.pmt_causes.specs.Groups.{IsIn, Tells}
 use Rattle.pmt_causes.proofs.CountedLemmas.{counted-same}
-use Rattle.pmt_fates.specs.declared.fate.Fate.{Fate}
 use Rattle.pmt_fates.specs.declared.fate.Fate.TheVariants as fate
-use Rattle.pmt_fates.specs.declared.place_row.PlaceRow.{PlaceRow}
-use Rattle.pmt_fates.specs.declared.saved_before.SavedBefore.{SavedBefore}
-use Rattle.pmt_fates.specs.Fates.{AreFates, fence_fate, flush_fate, op_fate}
-use Rattle.pmt_fates.specs.Places.{AddUp, ArePlaces, count_in, fate_at, is_fence_fate, is_flush_fate, is_in_time, is_same, is_store_fate, origin_in, place_items, row_in}
 
 -- what is counted in a list
 abbrev one : Bool → ℕ
@@ -112,13 +94,11 @@ kind (Store v) a b n s w = (
   four-flush a (nat_lt n s) (nat_le 2 w) (nat_le 1 w),
   four-fence a (nat_lt n s) (nat_le 2 w) (nat_le 1 w),
 )
-kind (Clwb l) a b n s w = flushes b
-kind (ClflushOpt l) a b n s w = flushes b
-kind (Clflush l) a b n s w = flushes b
 kind Sfence a b n s w = fences b
 kind Mfence a b n s w = fences b
 kind (IsPersist r) a b n s w = (refl, refl, refl)
 kind (IsOrderedBefore r q) a b n s w = (refl, refl, refl)
+kind o a b n s w = flushes b
 
 abbrev AreAlike : Recording → List Fate → ℕ → Type 0
 AreAlike T fates i =
@@ -142,15 +122,7 @@ alike T told dropped fates x (suc n) = go (cases_lt n (length T.events))
 -- a store has one fate
 fate-one : (f : Fate) → one (is_store_fate f) ≡ one (is_same fate.Lost f) + one (is_same fate.Ignored f) + one (is_same fate.Late f) + one (is_in_time f)
 fate-one fate.Lost = refl
-fate-one fate.Ignored = refl
-fate-one fate.Late = refl
-fate-one fate.Left = refl
-fate-one fate.InTime = refl
-fate-one fate.Flush = refl
-fate-one fate.IdleFlush = refl
-fate-one fate.Fence = refl
-fate-one fate.IdleFence = refl
-fate-one fate.Claim = refl
+fate-one f = refl
 
 fates-one : (fates : List Fate) (ms : List ℕ) →
     count_in fates is_store_fate ms ≡ count_in fates (is_same fate.Lost) ms + count_in fates (is_same fate.Ignored) ms + count_in fates (is_same fate.Late) ms + count_in fates is_in_time ms

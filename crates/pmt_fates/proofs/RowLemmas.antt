@@ -1,24 +1,8 @@
 -- The rows of all places, with one more event, and the groups that they tell of.
-use Rattle.std.proofs.Common.{◌≡◌, ℕ, zero, suc, ◌-◌, ◌^◌, ◌<◌, ◌≤◌, ◌⊎◌, inl, inr, Bool, true, false, cond, List, [], ◌∷◌, ◌++◌, length, length-append, set, get_or, Option, None, Some, refl, sym, ap, subst, ◌∙◌, arith}
-use Rattle.std.specs.Prelude.{if◌then◌else◌, reverse, slice_get, slice_index, unwrap_or}
-use Rattle.std.proofs.lemmas.Bool.{eq-eqb}
-use Rattle.std.proofs.lemmas.Option.{none-some, same_Some, slice_get-get_or, slice_get-map}
-use Rattle.std.proofs.lemmas.List.{reverse-append}
-use Rattle.std.proofs.lemmas.List.Sums.{count_by-le-length, sum_by_push}
-use Rattle.pmt_laws.specs.Prelude.{Event, Recording, event, find, option_map}
-use Rattle.pmt_explain.proofs.GroupingLemmas.{IsGathered, get-last, gathered-join, gathered-new, groups-told, places-within}
-use Rattle.pmt_causes.specs.declared.failure_keys.Origin.{Origin}
-use Rattle.pmt_causes.specs.declared.failure_keys.Origin.TheVariants.{Label, Thread}
-use Rattle.pmt_causes.specs.declared.grouping.Keyed.{Keyed}
-use Rattle.pmt_causes.specs.Groups.{origin_of}
-use Rattle.pmt_causes.proofs.ExactFailures.{origin-exact}
-use Rattle.pmt_causes.proofs.GroupLemmas.{map-length}
-use Rattle.pmt_fates.specs.declared.fate.Fate.{Fate}
+use Rattle.pmt_fates.proofs.Prelude.{◌≡◌, ℕ, zero, suc, ◌-◌, ◌^◌, ◌<◌, ◌≤◌, ◌⊎◌, inl, inr, Bool, true, false, cond, List, [], ◌∷◌, ◌++◌, length, length-append, set, get_or, Option, None, Some, refl, sym, ap, subst, ◌∙◌, arith, if◌then◌else◌, reverse, slice_get, slice_index, unwrap_or, none-some, same_Some, slice_get-get_or, slice_get-map, reverse-append, count_by-le-length, sum_by_push, Event, Recording, event, find, option_map, IsGathered, get-last, gathered-join, gathered-new, groups-told, places-within, Origin, Keyed, origin_of, origin-exact, map-length, Fate, PlaceRow, SavedBefore, count_in, fate_at, find_in, find_last_in, is_fence_fate, is_flush_fate, is_in_time, is_missed, is_same, is_store_fate, origin_in, place_items, saved_at, Finds, IsThere, IsNew, same_place, AreSmall, else_first, else_saved, more, row_at, with_fate}
 use Rattle.pmt_fates.specs.declared.fate.Fate.TheVariants as fate
-use Rattle.pmt_fates.specs.declared.place_row.PlaceRow.{PlaceRow}
-use Rattle.pmt_fates.specs.declared.saved_before.SavedBefore.{SavedBefore}
-use Rattle.pmt_fates.specs.Places.{count_in, fate_at, find_in, find_last_in, is_fence_fate, is_flush_fate, is_in_time, is_missed, is_same, is_store_fate, origin_in, place_items, saved_at, Finds, IsThere, IsNew, same_place, AreSmall, else_first, else_saved, more, row_at, with_fate}
 use Rattle.pmt_fates.proofs.PlaceLemmas.{numbers, numbers-more}
+use Rattle.pmt_fates.proofs.RowPlaceLemmas.{same-itself}
 
 find-more : (P : ℕ → Bool) (xs : List ℕ) (i : ℕ) → else_first (P i) i (find P xs) ≡ find P (xs ++ i ∷ [])
 find-more P [] i = go (P i)
@@ -48,13 +32,9 @@ set-last (z ∷ xs) x y = ap (λ zs. z ∷ zs) (set-last xs x y)
 place-dec : (k q : Origin) → (k ≡ q) ⊎ (k ≡ q → ⊥)
 place-dec k q = go (same_place k q) refl
   where
-    itself : (k : Origin) → same_place k k ≡ true
-    itself (Label a) = eq-eqb a a refl
-    itself (Thread t) = eq-eqb t t refl
-
     go : (b : Bool) → same_place k q ≡ b → (k ≡ q) ⊎ (k ≡ q → ⊥)
     go true is = inl (origin-exact k q is)
-    go false is = inr (λ e. let yes_same : same_place k q ≡ true = subst (λ z. same_place k z ≡ true) e (itself k) in cc)
+    go false is = inr (λ e. let yes_same : same_place k q ≡ true = subst (λ z. same_place k z ≡ true) e (same-itself k) in cc)
 
 -- the item is of the row's place
 abbrev pub IsOf : PlaceRow → Keyed Origin → Type 0

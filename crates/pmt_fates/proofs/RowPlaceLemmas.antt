@@ -1,13 +1,7 @@
 -- Where the rows of places stand, at first and with one more.
-use Rattle.std.proofs.Common.{◌≡◌, ℕ, zero, suc, ◌+◌, Bool, true, false, get_or, Some, refl, ap, ◌∙◌, arith}
-use Rattle.std.specs.Prelude.{if◌then◌else◌, nat_eq, replicate, unwrap_or}
+use Rattle.pmt_fates.proofs.Prelude.{◌≡◌, ℕ, zero, suc, ◌+◌, Bool, true, false, get_or, Some, refl, ap, ◌∙◌, arith, if◌then◌else◌, nat_eq, replicate, unwrap_or, eq-eqb, Origin, Label, Thread, origin-exact, before, place_number, row_place, same_place}
 use Rattle.std.specs.HashMap.{get}
-use Rattle.std.proofs.lemmas.Bool.{eq-eqb}
-use Rattle.pmt_causes.specs.declared.failure_keys.Origin.{Origin}
-use Rattle.pmt_causes.specs.declared.failure_keys.Origin.TheVariants.{Label, Thread}
-use Rattle.pmt_causes.proofs.ExactFailures.{origin-exact}
 use Rattle.pmt_fates.specs.declared.row_places.RowPlaces.{RowPlaces}
-use Rattle.pmt_fates.specs.Places.{before, place_number, row_place, same_place}
 
 none-told : (n l d : ℕ) → d ≡ 0 → get_or (replicate n 0) l d ≡ 0
 none-told zero l d none = none
@@ -18,7 +12,7 @@ pub numbers-none : (places : RowPlaces) (n : ℕ) → places.threads ≡ replica
 numbers-none places n threads labels rest (Label l) = ap (λ xs. get_or xs l (unwrap_or (get nat_eq places.rest l) 0)) labels ∙ none-told n l _ (rest l)
 numbers-none places n threads labels rest (Thread t) = ap (λ xs. get_or xs t 0) threads ∙ none-told 256 t 0 refl
 
-same-itself : (k : Origin) → same_place k k ≡ true
+pub same-itself : (k : Origin) → same_place k k ≡ true
 same-itself (Label a) = eq-eqb a a refl
 same-itself (Thread t) = eq-eqb t t refl
 

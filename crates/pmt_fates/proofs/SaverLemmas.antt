@@ -1,18 +1,6 @@
 -- Which store is safe last by a place, and the next fence of a thread, event by event.
-use Rattle.std.proofs.Common.{◌≡◌, ◌≢◌, ℕ, zero, suc, ◌+◌, ◌<◌, ◌≤◌, ◌⊎◌, inl, inr, true, false, List, [], ◌∷◌, ◌++◌, length, length-append, get_or, set, get_or-set_same, get_or-set_other, Some, refl, sym, ap, subst, ◌∙◌, arith}
-use Rattle.std.specs.Prelude.{◌==◌, if◌then◌else◌, nat_lt, replicate, slice_get, unwrap_or}
-use Rattle.std.proofs.lemmas.Bool.{cases_lt, cases_eq, ne_eqb, lt-ltb, le-ltb, false≢true}
-use Rattle.std.proofs.lemmas.List.{length-set, length-replicate}
-use Rattle.std.proofs.lemmas.Option.{none-some, same_Some, slice_get-get_or, get_or_from_slice_get, slice_get_within, slice_get_past}
-use Rattle.pmt_laws.specs.Prelude.{Event, Op, Store, Clwb, ClflushOpt, Clflush, Sfence, Mfence, IsPersist, IsOrderedBefore, Layout, Written, line_of, Act, Stores, Flushes, Clflushes, Fences, Asserts, Recording, IsAct, act_of, event}
-use Rattle.pmt_laws.proofs.Histories.{act-unique, act-within, event-some}
-use Rattle.pmt_explain.specs.Following.{IsFenceAfter, IsFirst, past_of, AreSafePlaces, IsSafePlace, TellsSafe, AreOwnFences}
-use Rattle.pmt_explain.proofs.GroupingLemmas.{get-before, get-last}
-use Rattle.pmt_fates.specs.declared.fate.Fate.{Fate}
-use Rattle.pmt_fates.specs.declared.fate.Fate.TheVariants.{Claim, Left}
+use Rattle.pmt_fates.proofs.Prelude.{◌≡◌, ◌≢◌, ℕ, zero, suc, ◌+◌, ◌<◌, ◌≤◌, ◌⊎◌, inl, inr, true, false, List, [], ◌∷◌, ◌++◌, length, length-append, get_or, set, get_or-set_same, get_or-set_other, Some, refl, sym, ap, subst, ◌∙◌, arith, ◌==◌, if◌then◌else◌, nat_lt, replicate, slice_get, unwrap_or, cases_lt, cases_eq, ne_eqb, lt-ltb, le-ltb, false≢true, length-set, length-replicate, none-some, same_Some, slice_get-get_or, get_or_from_slice_get, slice_get_within, slice_get_past, Event, Op, Store, Clwb, ClflushOpt, Clflush, Sfence, Mfence, IsPersist, IsOrderedBefore, Layout, Written, line_of, Act, Stores, Flushes, Clflushes, Fences, Asserts, Recording, IsAct, act_of, event, act-unique, act-within, event-some, IsFenceAfter, IsFirst, past_of, AreSafePlaces, IsSafePlace, TellsSafe, AreOwnFences, get-before, get-last, Fate, Claim, Left, fate_at, is_same, IsOwnFence, IsSavedAt, TellsSaved, AreLast, AreSavers, IsLastBefore, IsSaver, saved_by, saved_if, with_saver}
 use Rattle.pmt_fates.specs.declared.saved_before.Savings.{Savings}
-use Rattle.pmt_fates.specs.Places.{fate_at, is_same}
-use Rattle.pmt_fates.specs.Fates.{IsOwnFence, IsSavedAt, TellsSaved, AreLast, AreSavers, IsLastBefore, IsSaver, saved_by, saved_if, with_saver}
 
 -- there is one first number
 first-unique : (P : ℕ → Type 0) (past a b : ℕ) → IsFirst P past a → IsFirst P past b → a ≡ b

@@ -1,13 +1,7 @@
 -- The order in which places are told.
-use Rattle.std.proofs.Common.{◌≡◌, ℕ, suc, ◌+◌, ◌<◌, ◌≤◌, inl, inr, List, length, get_or, Some, ap, subst, ◌∙◌, sym, arith}
-use Rattle.std.specs.Prelude.{slice_get}
-use Rattle.std.specs.Ordering.{nat_cmp}
-use Rattle.std.specs.List.Sorted.{IsPermutation, IsSortedByKey, IsStableByKey}
-use Rattle.std.proofs.lemmas.Bool.{cases_lt}
-use Rattle.std.proofs.lemmas.Option.{get_or_from_slice_get, slice_get_within}
-use Rattle.std.proofs.lemmas.List.Sorted.{IsPermutation-trans, IsNonDecreasingBy-from_sort, ties_still_rise}
+use Rattle.pmt_fates.proofs.Prelude.{◌≡◌, ℕ, suc, ◌+◌, ◌<◌, ◌≤◌, inl, inr, List, length, get_or, Some, ap, subst, ◌∙◌, sym, arith, slice_get, nat_cmp, IsPermutation, IsSortedByKey, IsStableByKey, cases_lt, get_or_from_slice_get, slice_get_within, IsPermutation-trans, IsNonDecreasingBy-from_sort, ties_still_rise, less, paid, wasted}
 use Rattle.pmt_fates.specs.declared.costs.PlaceCost.{PlaceCost}
-use Rattle.pmt_fates.specs.Counting.{AreInOrder, ComesBefore, less, paid, wasted}
+use Rattle.pmt_fates.specs.Counting.{AreInOrder, ComesBefore}
 
 abbrev pub less_paid : PlaceCost → ℕ
 less_paid p = less (paid p)

@@ -1,29 +1,19 @@
 -- What is counted, event by event.
-use Rattle.std.proofs.Common.{◌≡◌, ◌≢◌, ℕ, zero, suc, ◌+◌, ◌*◌, ◌<◌, ◌≤◌, ◌⊎◌, inl, inr, Bool, true, false, ◌==◌, ◌||◌, not, cond, List, [], ◌∷◌, ◌++◌, length, take, set, refl, sym, ap, subst, ◌∙◌, arith}
-use Rattle.std.specs.Prelude.{if◌then◌else◌, replicate, reverse, slice_index}
-use Rattle.std.proofs.lemmas.Bool.{cases_eq, eq-eqb, ne_eqb}
-use Rattle.std.proofs.lemmas.List.{get_or-replicate, get_or-set_same, get_or-set_other, length-replicate, length-reverse, length-set, length-take, reverse-append}
+use Rattle.pmt_fates.proofs.Prelude.{◌≡◌, ◌≢◌, ℕ, zero, suc, ◌+◌, ◌*◌, ◌<◌, ◌≤◌, ◌⊎◌, inl, inr, Bool, true, false, ◌==◌, ◌||◌, not, cond, List, [], ◌∷◌, ◌++◌, length, take, set, refl, sym, ap, subst, ◌∙◌, arith, if◌then◌else◌, replicate, reverse, slice_index, cases_eq, eq-eqb, ne_eqb, get_or-replicate, get_or-set_same, get_or-set_other, length-replicate, length-reverse, length-set, length-take, reverse-append, count_by-le-length, length-filter, sum_by-cons, sum_by-take-le, Event, Op, Store, Clwb, ClflushOpt, Sfence, Mfence, Recording, IsEventIn, IsOp, IsTrace, event_limit, Layout, AllByRecursion, sum_by, Counts, FenceSizes, AreFew, by_thread, counts_of, is_clwb, is_clflushopt, is_sfence, is_mfence, stored, with_op, AreSizes, bar_of, fence_sizes, is_fence, is_fence_of, is_flush_of, waiting, with_size, row_of, rows_below, thread_rows, IsTally, counts_in, sizes_after, waiting_after}
 use Rattle.std.proofs.lemmas.List.Filters.{sum_by-filter_both}
-use Rattle.std.proofs.lemmas.List.Sums.{count_by-le-length, length-filter, sum_by-cons, sum_by-take-le}
-use Rattle.pmt_laws.specs.Prelude.{Event, Op, Store, Clwb, ClflushOpt, Clflush, Sfence, Mfence, IsPersist, IsOrderedBefore, Recording, IsEventIn, IsOp, IsTrace, event_limit, Layout, AllByRecursion, sum_by}
-use Rattle.pmt_fates.specs.declared.counts.Counts.{Counts}
-use Rattle.pmt_fates.specs.declared.fences.FenceSizes.{FenceSizes}
 use Rattle.pmt_fates.specs.declared.figures.ThreadCounts.{ThreadCounts}
-use Rattle.pmt_fates.specs.Counting.{AreFew, by_thread, counts_of, is_clwb, is_clflushopt, is_sfence, is_mfence, stored, with_op, AreSizes, bar_of, fence_sizes, is_fence, is_fence_of, is_flush_of, waiting, with_size, row_of, rows_below, thread_rows, AreSmall, IsTally, counts_in, sizes_after, waiting_after}
+use Rattle.pmt_fates.specs.Counting.{AreSmall}
 use Rattle.pmt_fates.proofs.CountingLemmas.{counts-push, few, threads-next}
 use Rattle.pmt_fates.proofs.FencingLemmas.{sizes-le, sizes-next, sum-le, waiting-le, waiting-next}
 
 -- the flushes that wait, once an event came
 own-waits : (t w : ℕ) (waits : List ℕ) (op : Op) → t < length waits → slice_index waits t ≡ w →
     slice_index (waiting_after t op waits) t ≡ cond (is_sfence op || is_mfence op) 0 (cond (is_clwb op || is_clflushopt op) 1 0 + w)
-own-waits t w waits (Store s) within here = omega (arith, here)
 own-waits t w waits (Clwb a) within here = omega (arith, here, get_or-set_same waits t (slice_index waits t + 1) 0 within)
 own-waits t w waits (ClflushOpt a) within here = omega (arith, here, get_or-set_same waits t (slice_index waits t + 1) 0 within)
-own-waits t w waits (Clflush a) within here = omega (arith, here)
 own-waits t w waits Sfence within here = get_or-set_same waits t 0 0 within
 own-waits t w waits Mfence within here = get_or-set_same waits t 0 0 within
-own-waits t w waits (IsPersist r) within here = omega (arith, here)
-own-waits t w waits (IsOrderedBefore r q) within here = omega (arith, here)
+own-waits t w waits op within here = omega (arith, here)
 
 other-waits : (t k : ℕ) (waits : List ℕ) (op : Op) → k ≢ t → slice_index (waiting_after t op waits) k ≡ slice_index waits k
 other-waits t k waits op apart = go (is_clwb op || is_clflushopt op) (is_sfence op || is_mfence op)
@@ -101,13 +91,7 @@ tally-next es e all threads waits z thread is = record {
 
 op-stored : (op : Op) → IsOp op → stored op ≤ 8
 op-stored (Store w) is = omega (arith, is.inside)
-op-stored (Clwb a) is = omega arith
-op-stored (ClflushOpt a) is = omega arith
-op-stored (Clflush a) is = omega arith
-op-stored Sfence is = omega arith
-op-stored Mfence is = omega arith
-op-stored (IsPersist r) is = omega arith
-op-stored (IsOrderedBefore r q) is = omega arith
+op-stored op is = omega arith
 
 stored-le : (f : Layout) (es : List Event) → AllByRecursion (IsEventIn f) es → sum_by (λ (e : Event). stored e.op) es ≤ 8 * length es
 stored-le f [] all = omega arith

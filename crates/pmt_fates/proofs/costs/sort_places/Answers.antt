@@ -1,5 +1,4 @@
-use Rattle.std.proofs.Common.{rules}
-use Rattle.std.proofs.lemmas.List.Sorted.{answers_always}
+use Rattle.pmt_fates.proofs.Prelude.{rules, answers_always}
 use Rattle.pmt_fates.proofs.StatOrderLemmas.{in-order, less_paid, less_wasted}
 use Rattle.pmt_fates.proofs.costs.sort_places.Goals as goal
 

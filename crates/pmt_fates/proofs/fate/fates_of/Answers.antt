@@ -1,10 +1,4 @@
-use Rattle.std.proofs.Common.{◌≡◌, ◌<◌, suc, length, map, Some, ap, sym, ◌∙◌, arith}
-use Rattle.std.proofs.lemmas.Grind.{elements}
-use Rattle.std.specs.Prelude.{slice_get, slice_index}
-use Rattle.std.proofs.lemmas.Option.{slice_get-get_or, slice_get_within}
-use Rattle.pmt_model.specs.Traces.{event}
-use Rattle.pmt_explain.specs.Dropping.{event_of}
-use Rattle.pmt_fates.specs.Fates.{is_listed, op_fate}
+use Rattle.pmt_fates.proofs.Prelude.{◌≡◌, ◌<◌, suc, length, map, Some, ap, sym, ◌∙◌, arith, elements, slice_get, slice_index, slice_get-get_or, slice_get_within, event, event_of, is_listed, op_fate}
 use Rattle.pmt_fates.proofs.FateLemmas.{fates-next}
 use Rattle.pmt_fates.proofs.fate.fates_of.Goals as goal
 

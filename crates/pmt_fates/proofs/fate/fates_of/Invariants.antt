@@ -1,5 +1,4 @@
-use Rattle.std.proofs.Common.{map}
-use Rattle.pmt_explain.specs.Dropping.{event_of}
+use Rattle.pmt_fates.proofs.Prelude.{map, event_of}
 use Rattle.pmt_fates.proofs.FateLemmas.{AreSoFar}
 use Rattle.pmt_fates.proofs.fate.fates_of.Given as goal
 

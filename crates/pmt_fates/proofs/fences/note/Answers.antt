@@ -1,5 +1,4 @@
-use Rattle.std.proofs.Common.{arith}
-use Rattle.std.proofs.lemmas.Grind.{moves}
+use Rattle.pmt_fates.proofs.Prelude.{arith, moves}
 use Rattle.pmt_fates.proofs.fences.note.Goals as goal
 
 pub returns-in-Sfence-clause-waits : goal.returns-in-Sfence-clause-waits

@@ -1,7 +1,4 @@
-use Rattle.std.proofs.Common.{◌≡◌, ◌+◌, ◌<◌, ◌≤◌, List, [], ◌∷◌, ◌++◌, length, take, sym, ap, subst, ◌∙◌, arith}
-use Rattle.std.proofs.lemmas.List.{length-take, take_all, take_more}
-use Rattle.pmt_laws.specs.Prelude.{Event, event_limit}
-use Rattle.pmt_fates.specs.Counting.{AreFew, by_thread, counts_of, IsTally}
+use Rattle.pmt_fates.proofs.Prelude.{◌≡◌, ◌+◌, ◌<◌, ◌≤◌, List, [], ◌∷◌, ◌++◌, length, take, sym, ap, subst, ◌∙◌, arith, length-take, take_all, take_more, Event, event_limit, AreFew, by_thread, counts_of, IsTally}
 use Rattle.pmt_fates.proofs.TallyLemmas.{few-of-thread, few-so-far, rows-told, small-so-far, tally-next, tally-start}
 use Rattle.pmt_fates.proofs.figures.figures_of.Goals as goal
 

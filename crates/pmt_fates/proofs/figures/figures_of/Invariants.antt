@@ -1,5 +1,4 @@
-use Rattle.std.proofs.Common.{take}
-use Rattle.pmt_fates.specs.Counting.{IsTally}
+use Rattle.pmt_fates.proofs.Prelude.{take, IsTally}
 use Rattle.pmt_fates.proofs.figures.figures_of.Given as goal
 
 abbrev pub invariant-loop-event : goal.invariant-loop-event

@@ -1,5 +1,4 @@
-use Rattle.std.proofs.Common.{◌≡◌, length, ap, ◌∙◌, arith}
-use Rattle.pmt_fates.specs.Counting.{rows_below, counts_in}
+use Rattle.pmt_fates.proofs.Prelude.{◌≡◌, length, ap, ◌∙◌, arith, rows_below, counts_in}
 use Rattle.pmt_fates.proofs.figures.rows_of.Goals as goal
 
 pub returns : goal.returns

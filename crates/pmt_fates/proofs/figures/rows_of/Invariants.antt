@@ -1,5 +1,4 @@
-use Rattle.std.proofs.Common.{◌≡◌}
-use Rattle.pmt_fates.specs.Counting.{rows_below, counts_in}
+use Rattle.pmt_fates.proofs.Prelude.{◌≡◌, rows_below, counts_in}
 use Rattle.pmt_fates.proofs.figures.rows_of.Given as goal
 
 abbrev pub invariant-loop-thread : goal.invariant-loop-thread

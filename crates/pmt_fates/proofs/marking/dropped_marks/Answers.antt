@@ -1,9 +1,4 @@
-use Rattle.std.proofs.Common.{map, subst, arith}
-use Rattle.std.proofs.lemmas.Grind.{elements}
-use Rattle.std.proofs.lemmas.List.{take_all}
-use Rattle.pmt_explain.specs.Dropping.{event_of}
-use Rattle.pmt_causes.proofs.GroupLemmas.{map-length}
-use Rattle.pmt_fates.specs.Fates.{AreMarks}
+use Rattle.pmt_fates.proofs.Prelude.{map, subst, arith, elements, take_all, event_of, map-length, AreMarks}
 use Rattle.pmt_fates.proofs.MarkLemmas.{marks-more, number-at}
 use Rattle.pmt_fates.proofs.marking.dropped_marks.Goals as goal
 

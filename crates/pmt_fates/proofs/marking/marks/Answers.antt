@@ -1,7 +1,4 @@
-use Rattle.std.proofs.Common.{refl, subst, arith}
-use Rattle.std.proofs.lemmas.Grind.{elements}
-use Rattle.std.proofs.lemmas.List.{take_all}
-use Rattle.pmt_fates.specs.Fates.{AreMarks}
+use Rattle.pmt_fates.proofs.Prelude.{refl, subst, arith, elements, take_all, AreMarks}
 use Rattle.pmt_fates.proofs.MarkLemmas.{marks-more}
 use Rattle.pmt_fates.proofs.marking.marks.Goals as goal
 

@@ -1,5 +1,4 @@
-use Rattle.std.proofs.Common.{take}
-use Rattle.pmt_fates.specs.Fates.{AreMarks}
+use Rattle.pmt_fates.proofs.Prelude.{take, AreMarks}
 use Rattle.pmt_fates.proofs.marking.marks.Given as goal
 
 abbrev pub invariant-loop-number : goal.invariant-loop-number

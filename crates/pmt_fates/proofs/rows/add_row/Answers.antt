@@ -1,5 +1,4 @@
-use Rattle.std.proofs.Common.{◌≡◌, ◌+◌, [], ◌∷◌, ◌++◌, length, ap, ◌∙◌, arith}
-use Rattle.pmt_fates.specs.Places.{IsNew, row_at}
+use Rattle.pmt_fates.proofs.Prelude.{◌≡◌, ◌+◌, [], ◌∷◌, ◌++◌, length, ap, ◌∙◌, arith, IsNew, row_at}
 use Rattle.pmt_fates.proofs.RowPlaceLemmas.{set-others, set-there}
 use Rattle.pmt_fates.proofs.rows.add_row.Goals as goal
 

@@ -1,5 +1,4 @@
-use Rattle.std.proofs.Common.{refl, ap, sym, ◌∙◌}
-use Rattle.pmt_fates.specs.Places.{IsThere, row_place}
+use Rattle.pmt_fates.proofs.Prelude.{refl, ap, sym, ◌∙◌, IsThere, row_place}
 use Rattle.pmt_fates.proofs.rows.find.Goals as goal
 
 pub returns-in-Some : goal.returns-in-Some

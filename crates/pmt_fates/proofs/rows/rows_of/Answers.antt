@@ -1,14 +1,4 @@
-use Rattle.std.proofs.Common.{◌≡◌, ℕ, Option, ◌+◌, ◌-◌, ◌^◌, ◌<◌, [], ◌∷◌, ◌++◌, suc, length, set, Some, refl, sym, ap, subst, ◌∙◌, arith}
-use Rattle.std.proofs.lemmas.Grind.{elements}
-use Rattle.std.specs.Prelude.{slice_get}
-use Rattle.std.proofs.lemmas.Option.{slice_get-get_or}
-use Rattle.pmt_model.specs.Traces.{event}
-use Rattle.pmt_causes.specs.declared.failure_keys.Origin.{Origin}
-use Rattle.pmt_causes.specs.declared.grouping.Keyed.{Keyed}
-use Rattle.pmt_causes.specs.Groups.{origin_of}
-use Rattle.pmt_fates.specs.declared.saved_before.SavedBefore.{SavedBefore}
-use Rattle.pmt_fates.specs.Places.{fate_at, place_items, before, row_place, with_fate}
-use Rattle.pmt_fates.specs.Fates.{saved_by}
+use Rattle.pmt_fates.proofs.Prelude.{◌≡◌, ℕ, Option, ◌+◌, ◌-◌, ◌^◌, ◌<◌, [], ◌∷◌, ◌++◌, suc, length, set, Some, refl, sym, ap, subst, ◌∙◌, arith, elements, slice_get, slice_get-get_or, event, Origin, Keyed, origin_of, SavedBefore, fate_at, place_items, before, row_place, with_fate, saved_by}
 use Rattle.pmt_fates.proofs.RowLemmas.{AreSoFar, far-more, fate-is, far-start, finds-at, finds-small, finds-within, item_at, item-is, items-length}
 use Rattle.pmt_fates.proofs.RowGroupLemmas.{rows-told}
 use Rattle.pmt_fates.proofs.rows.rows_of.Goals as goal

@@ -1,5 +1,4 @@
-use Rattle.pmt_fates.specs.Places.{place_items, row_place}
-use Rattle.pmt_fates.specs.Fates.{saved_by}
+use Rattle.pmt_fates.proofs.Prelude.{place_items, row_place, saved_by}
 use Rattle.pmt_fates.proofs.RowLemmas.{AreSoFar}
 use Rattle.pmt_fates.proofs.rows.rows_of.Given as goal
 

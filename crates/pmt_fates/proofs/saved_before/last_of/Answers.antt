@@ -1,6 +1,4 @@
-use Rattle.std.proofs.Common.{◌≡◌, ◌+◌, suc, get_or, refl, subst, sym, arith}
-use Rattle.std.proofs.lemmas.Option.{none-some, slice_get-get_or}
-use Rattle.pmt_fates.specs.Fates.{IsLastBefore}
+use Rattle.pmt_fates.proofs.Prelude.{◌≡◌, ◌+◌, suc, get_or, refl, subst, sym, arith, none-some, slice_get-get_or, IsLastBefore}
 use Rattle.pmt_fates.proofs.SaverLemmas.{last-next, last-pushed, last-start}
 use Rattle.pmt_fates.proofs.saved_before.last_of.Goals as goal
 

@@ -1,6 +1,4 @@
-use Rattle.std.proofs.Common.{length}
-use Rattle.pmt_model.specs.Traces.{Recording}
-use Rattle.pmt_fates.specs.Fates.{AreSavers, IsLastBefore}
+use Rattle.pmt_fates.proofs.Prelude.{length, Recording, AreSavers, IsLastBefore}
 use Rattle.pmt_fates.proofs.SaverLemmas.{AreLastSoFar}
 use Rattle.pmt_fates.proofs.saved_before.last_of.Given as goal
 

@@ -1,5 +1,4 @@
-use Rattle.std.proofs.Common.{arith}
-use Rattle.std.proofs.lemmas.Grind.{elements}
+use Rattle.pmt_fates.proofs.Prelude.{arith, elements}
 use Rattle.pmt_fates.proofs.saved_before.number_at.Goals as goal
 
 pub returns-in-Some : goal.returns-in-Some

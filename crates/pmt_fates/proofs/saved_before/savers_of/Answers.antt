@@ -1,9 +1,4 @@
-use Rattle.std.proofs.Common.{rules, ◌≡◌, ◌+◌, suc, ◌<◌, length, Some, refl, subst, sym, ap, ◌∙◌, arith}
-use Rattle.std.specs.Prelude.{slice_get, slice_index}
-use Rattle.std.proofs.lemmas.Option.{slice_get-get_or}
-use Rattle.pmt_model.specs.Traces.{event}
-use Rattle.pmt_explain.specs.Following.{past_of, TellsSafe}
-use Rattle.pmt_fates.specs.Fates.{AreSavers}
+use Rattle.pmt_fates.proofs.Prelude.{rules, ◌≡◌, ◌+◌, suc, ◌<◌, length, Some, refl, subst, sym, ap, ◌∙◌, arith, slice_get, slice_index, slice_get-get_or, event, past_of, TellsSafe, AreSavers}
 use Rattle.pmt_fates.proofs.SaverLemmas.{savers-next, savers-start}
 use Rattle.pmt_fates.proofs.saved_before.savers_of.Goals as goal
 

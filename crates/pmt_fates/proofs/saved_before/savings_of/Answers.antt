@@ -1,5 +1,4 @@
-use Rattle.std.proofs.Common.{length, sym, subst}
-use Rattle.pmt_fates.specs.Fates.{AreSavers}
+use Rattle.pmt_fates.proofs.Prelude.{length, sym, subst, AreSavers}
 use Rattle.pmt_fates.proofs.SaverLemmas.{left-told, no-left}
 use Rattle.pmt_fates.proofs.saved_before.savings_of.Goals as goal
 

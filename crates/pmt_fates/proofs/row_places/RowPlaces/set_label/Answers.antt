@@ -1,5 +1,4 @@
-use Rattle.std.proofs.Common.{arith}
-use Rattle.std.proofs.lemmas.Grind.{elements}
+use Rattle.pmt_fates.proofs.Prelude.{arith, elements}
 use Rattle.pmt_fates.proofs.row_places.RowPlaces.set_label.Goals as goal
 
 pub returns-then-label-len-clause-labels : goal.returns-then-label-len-clause-labels
