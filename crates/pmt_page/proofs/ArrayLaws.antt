@@ -1,21 +1,11 @@
 -- Lines of JSON become an array.
-use Rattle.std.proofs.Common.{◌≡◌, ℕ, ◌-◌, ◌==◌, ◌||◌, Bool, true, false, List, [], ◌∷◌, ◌++◌, length, take, codes, refl, sym, ap, ap₂, ◌∙◌, arith, append_assoc, append-nil, length-append, true≢false}
-use Rattle.std.specs.List.{AllByRecursion, flat_map}
-use Rattle.std.proofs.Math.Seq.{take-append_seam}
-use Rattle.std.proofs.lemmas.Bool.{cond-false}
-use Rattle.std.proofs.lemmas.Grind.{flat_map-append}
-use Rattle.pmt_page.specs.Pages.{separated_byte, array_of_lines, has_lf, LinesBecomeArray}
-use Rattle.pmt_page.specs.Columns.{listed}
-
-neither : (a b : Bool) → (a || b) ≡ false → (a ≡ false) × (b ≡ false)
-neither true b e = absurd (true≢false e)
-neither false b e = (refl, e)
+use Rattle.pmt_page.proofs.Prelude.{◌≡◌, ℕ, ◌-◌, ◌==◌, ◌||◌, false, List, [], ◌∷◌, ◌++◌, length, take, codes, refl, sym, ap, ap₂, ◌∙◌, arith, append_assoc, append-nil, length-append, AllByRecursion, flat_map, take-append_seam, cond-false, flat_map-append, separated_byte, array_of_lines, has_lf, LinesBecomeArray, listed, or_parts}
 
 -- a value stays as it is
 value-stays : (v : List ℕ) → has_lf v ≡ false → flat_map separated_byte v ≡ v
 value-stays [] clean = refl
 value-stays (c ∷ v) clean =
-    let parts = neither (c == 10) (has_lf v) clean in
+    let parts = or_parts (c == 10) (has_lf v) clean in
     ap₂ (λ (xs ys : List ℕ). xs ++ ys) (cond-false (c == 10) (codes ",") (c ∷ []) parts.0) (value-stays v parts.1)
 
 values-stay : (vs : List (List ℕ)) → AllByRecursion (λ v. has_lf v ≡ false) vs → flat_map separated_byte (flat_map (λ v. 10 ∷ v) vs) ≡ flat_map (λ v. 44 ∷ v) vs

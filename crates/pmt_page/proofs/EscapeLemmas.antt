@@ -1,8 +1,6 @@
 -- No < stands in JSON as the page has it.
-use Rattle.std.proofs.Common.{◌≡◌, ℕ, ◌==◌, ◌||◌, ◌∷◌, Bool, true, false, if◌then◌else◌, List, [], codes, refl, ap, ◌∙◌}
-use Rattle.std.specs.List.{list_any}
+use Rattle.pmt_page.proofs.Prelude.{◌≡◌, ℕ, ◌==◌, ◌||◌, ◌∷◌, Bool, true, false, if◌then◌else◌, List, [], codes, refl, ap, ◌∙◌, list_any, embedded, embedded_byte}
 use Rattle.std.proofs.lemmas.List.Folds.{list_any-append}
-use Rattle.pmt_page.specs.Pages.{embedded, embedded_byte}
 
 abbrev is_less_than : ℕ → Bool
 is_less_than c = c == 60

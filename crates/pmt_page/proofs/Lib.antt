@@ -1,3 +1,4 @@
+pub mod Prelude
 pub mod EscapeLemmas
 pub mod LabelLemmas
 pub mod NumberLemmas

@@ -1,9 +1,5 @@
 -- Numbers in base 64, digit by digit.
-use Rattle.std.proofs.Common.{◌≡◌, ℕ, ◌/◌, ◌%◌, ◌<◌, List, [], ◌∷◌, ◌++◌, map, ap, sym, ◌∙◌, arith, append_assoc}
-use Rattle.std.specs.Int.Digits.{digits_of}
-use Rattle.std.proofs.lemmas.Int.Digits.{digits_of_step}
-use Rattle.std.proofs.lemmas.List.{map-append}
-use Rattle.pmt_page.specs.Columns.{digit, short}
+use Rattle.pmt_page.proofs.Prelude.{◌≡◌, ℕ, ◌/◌, ◌%◌, ◌<◌, List, [], ◌∷◌, ◌++◌, map, ap, sym, ◌∙◌, arith, append_assoc, digits_of, digits_of_step, map-append, digit, short}
 
 -- A number is spelled as what is left of it without its last digit, and that digit.
 pub short-more : (n : ℕ) → 0 < n → short n ≡ short (n / 64) ++ digit (n % 64) ∷ []

@@ -1,10 +1,5 @@
 -- What reads the events back from what the columns write: letters, numbers and bytes.
-use Rattle.std.proofs.Common.{◌≡◌, ℕ, ◌==◌, if◌then◌else◌, true, List, [], ◌∷◌, ◌++◌, length, get_or, take, drop, refl, ap, ◌∙◌}
-use Rattle.std.specs.List.{flat_map}
-use Rattle.std.proofs.Math.Seq.{take-append_seam, drop-append_seam}
-use Rattle.pmt_text.specs.Prelude.{Event, Op, Store, Clwb, ClflushOpt, Clflush, Sfence, Mfence, IsPersist, IsOrderedBefore}
-use Rattle.pmt_page.specs.declared.events.NumberColumn.TheVariants.{Thread, Address, Length, SecondAddress, SecondLength}
-use Rattle.pmt_page.specs.Columns.{op_letter, op_column, numbers_of, first_address, first_length, second_address, second_length, stored_bytes}
+use Rattle.pmt_page.proofs.Prelude.{◌≡◌, ℕ, ◌==◌, if◌then◌else◌, true, List, [], ◌∷◌, ◌++◌, length, get_or, take, drop, refl, ap, ◌∙◌, flat_map, take-append_seam, drop-append_seam, Event, Op, Store, Clwb, ClflushOpt, Clflush, Sfence, Mfence, IsPersist, IsOrderedBefore, Thread, Address, Length, SecondAddress, SecondLength, op_letter, op_column, numbers_of, first_address, first_length, second_address, second_length, stored_bytes}
 
 -- The op with this letter, whose numbers and bytes stand first.
 abbrev op_back : ℕ → List ℕ → List ℕ → List ℕ → List ℕ → List ℕ → Op
@@ -37,13 +32,7 @@ read-event : (t : ℕ) (op : Op) (cs ts xs ls bs ms bytes : List ℕ) →
 read-event t (Store w) cs ts xs ls bs ms bytes =
     ap (λ (some : List ℕ). record { thread = t; op = Store (record { addr = w.addr; bytes = some }) } ∷ read_back cs ts xs ls bs ms (drop (length some) (w.bytes ++ bytes))) (take-append_seam w.bytes bytes)
     ∙ ap (λ (rest : List ℕ). record { thread = t; op = Store w } ∷ read_back cs ts xs ls bs ms rest) (drop-append_seam w.bytes bytes)
-read-event t (Clwb a) cs ts xs ls bs ms bytes = refl
-read-event t (ClflushOpt a) cs ts xs ls bs ms bytes = refl
-read-event t (Clflush a) cs ts xs ls bs ms bytes = refl
-read-event t Sfence cs ts xs ls bs ms bytes = refl
-read-event t Mfence cs ts xs ls bs ms bytes = refl
-read-event t (IsPersist r) cs ts xs ls bs ms bytes = refl
-read-event t (IsOrderedBefore r q) cs ts xs ls bs ms bytes = refl
+read-event t op cs ts xs ls bs ms bytes = refl
 
 pub read-events : (es : List Event) →
     read_back (op_column es) (flat_map (numbers_of true Thread) es) (flat_map (numbers_of true Address) es) (flat_map (numbers_of true Length) es)

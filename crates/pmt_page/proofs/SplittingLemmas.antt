@@ -1,6 +1,5 @@
 -- Texts that end with a byte that they do not have: how a longer one is taken apart.
-use Rattle.std.proofs.Common.{◌≡◌, ℕ, List, [], ◌∷◌, ◌++◌, refl, sym, ap, ap₂, append_assoc, ◌∙◌}
-use Rattle.std.specs.List.{AllByRecursion, flat_map}
+use Rattle.pmt_page.proofs.Prelude.{◌≡◌, ℕ, List, [], ◌∷◌, ◌++◌, refl, sym, ap, ap₂, append_assoc, ◌∙◌, AllByRecursion, flat_map}
 
 -- The byte is not in the text.
 abbrev pub Lacks : ℕ → List ℕ → Type 0

@@ -1,10 +1,5 @@
 -- Columns of numbers can be read back.
-use Rattle.std.proofs.Common.{◌≡◌, ℕ, ◌-◌, ◌<◌, ◌≤◌, ◌⊎◌, inl, inr, Bool, true, false, nat_lt, if◌then◌else◌, List, [], ◌∷◌, ◌++◌, map, refl, sym, ap, ap₂, ◌∙◌, arith, append_assoc}
-use Rattle.std.specs.Int.Digits.{digits_of, AllBelowBase}
-use Rattle.std.proofs.lemmas.Bool.{cases_lt, cond-true, cond-false}
-use Rattle.std.proofs.lemmas.Bool.Decides.{nat_tests}
-use Rattle.std.proofs.lemmas.Int.Digits.{all_below_base_digits_of, same_from_digits_of}
-use Rattle.pmt_page.specs.Columns.{digit, short, step, steps}
+use Rattle.pmt_page.proofs.Prelude.{◌≡◌, ℕ, ◌-◌, ◌<◌, ◌≤◌, ◌⊎◌, inl, inr, Bool, true, false, nat_lt, if◌then◌else◌, List, [], ◌∷◌, ◌++◌, map, refl, sym, ap, ap₂, ◌∙◌, arith, append_assoc, digits_of, AllBelowBase, cases_lt, cond-true, cond-false, nat_tests, all_below_base_digits_of, same_from_digits_of, digit, short, step, steps}
 use Rattle.pmt_page.proofs.SplittingLemmas.{Lacks, lacks-append, split}
 
 -- ---- One number

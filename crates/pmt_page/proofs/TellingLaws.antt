@@ -1,18 +1,10 @@
 -- The columns tell the events.
-use Rattle.std.proofs.Common.{◌≡◌, ℕ, ◌/◌, ◌%◌, List, [], ◌∷◌, ◌++◌, true, drop, codes, refl, sym, ap, ap₂, ◌∙◌, arith}
-use Rattle.std.specs.List.{AllByRecursion, flat_map}
-use Rattle.std.proofs.lemmas.Bool.Decides.{nat_tests}
-use Rattle.std.proofs.lemmas.Grind.{flat_map-append}
-use Rattle.pmt_text.specs.Prelude.{Event, Op, Store, Clwb, ClflushOpt, Clflush, Sfence, Mfence, IsPersist, IsOrderedBefore, Verdict, IsEvent, IsOp}
+use Rattle.pmt_page.proofs.Prelude.{◌≡◌, ℕ, ◌/◌, ◌%◌, List, [], ◌∷◌, ◌++◌, true, drop, codes, refl, sym, ap, ap₂, ◌∙◌, arith, AllByRecursion, flat_map, nat_tests, flat_map-append, Event, Op, Store, Verdict, IsEvent, IsOp, glyph, hex_pair, hex_bytes, Thread, Address, Length, SecondAddress, SecondLength, op_letter, op_column, numbers_of, stored_bytes, number_column, value_column, found_columns, columns_with, ColumnsTellEvents}
 use Rattle.pmt_text.specs.Judging.{paired}
-use Rattle.pmt_text.specs.Spelling.{glyph, hex_pair, hex_bytes}
 use Rattle.pmt_text.proofs.FieldLemmas.{AreSmall, paired-hex_bytes}
 use Rattle.pmt_page.specs.declared.events.NumberColumn.{NumberColumn}
-use Rattle.pmt_page.specs.declared.events.NumberColumn.TheVariants.{Thread, Address, Length, SecondAddress, SecondLength}
 use Rattle.pmt_explain.specs.declared.dropped_event.Dropped.{Dropped}
 use Rattle.pmt_page.specs.declared.known.SafePlace.{SafePlace}
-use Rattle.pmt_page.specs.Columns.{op_letter, op_column, numbers_of, stored_bytes, number_column, value_column, found_columns, columns_with}
-use Rattle.pmt_page.specs.Pages.{ColumnsTellEvents}
 use Rattle.pmt_page.proofs.SplittingLemmas.{Lacks, lacks-flat_map, strip, next, split, parts-append}
 use Rattle.pmt_page.proofs.StepLemmas.{steps-lack, steps-same}
 use Rattle.pmt_page.proofs.ReadingBack.{read_back, read-events}
@@ -21,13 +13,7 @@ use Rattle.pmt_page.proofs.ReadingBack.{read_back, read-events}
 
 letter-plain : (op : Op) → ¬ (op_letter op ≡ 34)
 letter-plain (Store w) e = omega arith
-letter-plain (Clwb a) e = omega arith
-letter-plain (ClflushOpt a) e = omega arith
-letter-plain (Clflush a) e = omega arith
-letter-plain Sfence e = omega arith
-letter-plain Mfence e = omega arith
-letter-plain (IsPersist r) e = omega arith
-letter-plain (IsOrderedBefore r q) e = omega arith
+letter-plain op e = omega arith
 
 ops-lack : (es : List Event) → Lacks 34 (op_column es)
 ops-lack [] = tt
@@ -58,13 +44,7 @@ values-are_hex (e ∷ es) =
 
 op-small : (op : Op) → IsOp op → AreSmall (stored_bytes op)
 op-small (Store w) is = is.each
-op-small (Clwb a) is = tt
-op-small (ClflushOpt a) is = tt
-op-small (Clflush a) is = tt
-op-small Sfence is = tt
-op-small Mfence is = tt
-op-small (IsPersist r) is = tt
-op-small (IsOrderedBefore r q) is = tt
+op-small op is = tt
 
 small-append : (xs ys : List ℕ) → AreSmall xs → AreSmall ys → AreSmall (xs ++ ys)
 small-append [] ys one two = two

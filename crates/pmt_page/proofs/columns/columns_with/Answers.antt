@@ -1,5 +1,4 @@
-use Rattle.std.proofs.Common.{rules, append_assoc}
-use Rattle.pmt_page.specs.Columns.{columns_with}
+use Rattle.pmt_page.proofs.Prelude.{rules, append_assoc, columns_with}
 use Rattle.pmt_page.proofs.columns.columns_with.Goals as goal
 
 pub returns : goal.returns

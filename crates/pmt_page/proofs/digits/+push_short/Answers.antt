@@ -1,5 +1,4 @@
-use Rattle.std.proofs.Common.{◌≡◌, ℕ, ◌<◌, ◌/◌, ◌%◌, List, [], ◌∷◌, ◌++◌, ap, ◌∙◌, arith}
-use Rattle.pmt_page.specs.Columns.{digit, short}
+use Rattle.pmt_page.proofs.Prelude.{◌≡◌, ℕ, ◌<◌, ◌/◌, ◌%◌, List, [], ◌∷◌, ◌++◌, ap, ◌∙◌, arith, digit, short}
 use Rattle.pmt_page.proofs.NumberLemmas.{short-added}
 use Rattle.pmt_page.proofs.digits.+push_short.Goals as goal
 

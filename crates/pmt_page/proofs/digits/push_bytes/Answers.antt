@@ -1,5 +1,4 @@
-use Rattle.std.proofs.Common.{arith}
-use Rattle.pmt_text.specs.Spelling.{hex_bytes, hex_pair}
+use Rattle.pmt_page.proofs.Prelude.{arith, hex_bytes, hex_pair}
 use Rattle.pmt_page.proofs.Pushing.{piece-pushed, pieces-pushed}
 use Rattle.pmt_page.proofs.digits.push_bytes.Goals as goal
 

@@ -1,5 +1,4 @@
-use Rattle.std.proofs.Common.{◌≡◌, ℕ, ◌+◌, ◌<◌, length, drop, get_or}
-use Rattle.pmt_page.specs.Columns.{dropped_letter}
+use Rattle.pmt_page.proofs.Prelude.{◌≡◌, ℕ, ◌+◌, ◌<◌, length, drop, get_or, dropped_letter}
 use Rattle.pmt_page.proofs.dropping.letters_of.Given as goal
 
 abbrev pub invariant-loop-index : goal.invariant-loop-index

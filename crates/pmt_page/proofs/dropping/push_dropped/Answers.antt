@@ -1,5 +1,4 @@
-use Rattle.std.proofs.Common.{arith}
-use Rattle.std.proofs.lemmas.Grind.{elements}
+use Rattle.pmt_page.proofs.Prelude.{arith, elements}
 use Rattle.pmt_page.proofs.dropping.push_dropped.Goals as goal
 
 pub returns-in_err-push : goal.returns-in_err-push

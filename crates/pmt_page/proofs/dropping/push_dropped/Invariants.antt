@@ -1,5 +1,4 @@
-use Rattle.std.proofs.Common.{◌≡◌, ◌+◌, ◌≤◌, ◌++◌, length, drop}
-use Rattle.pmt_page.specs.Columns.{dropped_letters}
+use Rattle.pmt_page.proofs.Prelude.{◌≡◌, ◌+◌, ◌≤◌, ◌++◌, length, drop, dropped_letters}
 use Rattle.pmt_page.proofs.dropping.push_dropped.Given as goal
 
 abbrev pub invariant-loop-index : goal.invariant-loop-index

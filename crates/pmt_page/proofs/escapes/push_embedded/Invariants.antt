@@ -1,6 +1,4 @@
-use Rattle.std.proofs.Common.{◌≡◌, ◌++◌, drop}
-use Rattle.std.specs.List.{flat_map}
-use Rattle.pmt_page.specs.Pages.{embedded_byte}
+use Rattle.pmt_page.proofs.Prelude.{◌≡◌, ◌++◌, drop, flat_map, embedded_byte}
 use Rattle.pmt_page.proofs.escapes.push_embedded.Given as goal
 
 abbrev pub invariant-loop-byte : goal.invariant-loop-byte

@@ -1,5 +1,4 @@
-use Rattle.std.proofs.Common.{arith}
-use Rattle.pmt_page.specs.Pages.{html_byte}
+use Rattle.pmt_page.proofs.Prelude.{arith, html_byte}
 use Rattle.pmt_page.proofs.Pushing.{piece-pushed, pieces-pushed}
 use Rattle.pmt_page.proofs.escapes.push_html.Goals as goal
 

@@ -1,5 +1,4 @@
-use Rattle.std.proofs.Common.{arith}
-use Rattle.pmt_page.specs.Pages.{quoted_byte}
+use Rattle.pmt_page.proofs.Prelude.{arith, quoted_byte}
 use Rattle.pmt_page.proofs.Pushing.{piece-pushed, pieces-pushed}
 use Rattle.pmt_page.proofs.escapes.push_quoted_bytes.Goals as goal
 

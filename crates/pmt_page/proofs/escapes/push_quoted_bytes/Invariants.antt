@@ -1,6 +1,4 @@
-use Rattle.std.proofs.Common.{◌≡◌, ◌++◌, drop}
-use Rattle.std.specs.List.{flat_map}
-use Rattle.pmt_page.specs.Pages.{quoted_byte}
+use Rattle.pmt_page.proofs.Prelude.{◌≡◌, ◌++◌, drop, flat_map, quoted_byte}
 use Rattle.pmt_page.proofs.escapes.push_quoted_bytes.Given as goal
 
 abbrev pub invariant-loop-byte : goal.invariant-loop-byte

@@ -1,6 +1,4 @@
-use Rattle.std.proofs.Common.{◌++◌, ap, ◌∙◌, arith}
-use Rattle.pmt_model.specs.declared.event.Event.{Event}
-use Rattle.pmt_page.specs.Columns.{numbers_of}
+use Rattle.pmt_page.proofs.Prelude.{◌++◌, ap, ◌∙◌, arith, Event, numbers_of}
 use Rattle.pmt_page.proofs.Pushing.{piece-pushed, pieces-pushed}
 use Rattle.pmt_page.proofs.events.numbers_of.Goals as goal
 

@@ -1,6 +1,4 @@
-use Rattle.std.proofs.Common.{◌≡◌, ◌++◌, drop}
-use Rattle.std.specs.List.{flat_map}
-use Rattle.pmt_page.specs.Columns.{numbers_of}
+use Rattle.pmt_page.proofs.Prelude.{◌≡◌, ◌++◌, drop, flat_map, numbers_of}
 use Rattle.pmt_page.proofs.events.numbers_of.Given as goal
 
 abbrev pub invariant-loop-event : goal.invariant-loop-event

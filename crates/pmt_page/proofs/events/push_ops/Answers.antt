@@ -1,6 +1,4 @@
-use Rattle.std.proofs.Common.{ap, ◌∙◌, arith}
-use Rattle.pmt_model.specs.declared.event.Event.{Event}
-use Rattle.pmt_page.specs.Columns.{op_letter}
+use Rattle.pmt_page.proofs.Prelude.{ap, ◌∙◌, arith, Event, op_letter}
 use Rattle.pmt_page.proofs.Pushing.{letter-pushed, letters-pushed}
 use Rattle.pmt_page.proofs.events.push_ops.Goals as goal
 

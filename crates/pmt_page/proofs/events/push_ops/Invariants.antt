@@ -1,5 +1,4 @@
-use Rattle.std.proofs.Common.{◌≡◌, ◌++◌, drop}
-use Rattle.pmt_page.specs.Columns.{op_column}
+use Rattle.pmt_page.proofs.Prelude.{◌≡◌, ◌++◌, drop, op_column}
 use Rattle.pmt_page.proofs.events.push_ops.Given as goal
 
 abbrev pub invariant-loop-event : goal.invariant-loop-event

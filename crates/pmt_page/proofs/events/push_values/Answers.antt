@@ -1,7 +1,4 @@
-use Rattle.std.proofs.Common.{◌++◌, ap, ◌∙◌, arith}
-use Rattle.pmt_model.specs.declared.event.Event.{Event}
-use Rattle.pmt_text.specs.Spelling.{hex_bytes}
-use Rattle.pmt_page.specs.Columns.{stored_bytes}
+use Rattle.pmt_page.proofs.Prelude.{◌++◌, ap, ◌∙◌, arith, Event, hex_bytes, stored_bytes}
 use Rattle.pmt_page.proofs.Pushing.{piece-pushed, pieces-pushed}
 use Rattle.pmt_page.proofs.events.push_values.Goals as goal
 

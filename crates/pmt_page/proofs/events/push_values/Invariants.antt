@@ -1,8 +1,4 @@
-use Rattle.std.proofs.Common.{◌≡◌, ◌++◌, drop}
-use Rattle.std.specs.List.{flat_map}
-use Rattle.pmt_model.specs.declared.event.Event.{Event}
-use Rattle.pmt_text.specs.Spelling.{hex_bytes}
-use Rattle.pmt_page.specs.Columns.{stored_bytes}
+use Rattle.pmt_page.proofs.Prelude.{◌≡◌, ◌++◌, drop, flat_map, Event, hex_bytes, stored_bytes}
 use Rattle.pmt_page.proofs.events.push_values.Given as goal
 
 abbrev pub invariant-loop-event : goal.invariant-loop-event

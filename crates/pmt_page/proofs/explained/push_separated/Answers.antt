@@ -1,5 +1,4 @@
-use Rattle.std.proofs.Common.{arith}
-use Rattle.pmt_page.specs.Pages.{separated_byte}
+use Rattle.pmt_page.proofs.Prelude.{arith, separated_byte}
 use Rattle.pmt_page.proofs.Pushing.{piece-pushed, pieces-pushed}
 use Rattle.pmt_page.proofs.explained.push_separated.Goals as goal
 

@@ -1,6 +1,4 @@
-use Rattle.std.proofs.Common.{◌≡◌, ◌++◌, drop}
-use Rattle.std.specs.List.{flat_map}
-use Rattle.pmt_page.specs.Pages.{separated_byte}
+use Rattle.pmt_page.proofs.Prelude.{◌≡◌, ◌++◌, drop, flat_map, separated_byte}
 use Rattle.pmt_page.proofs.explained.push_separated.Given as goal
 
 abbrev pub invariant-loop-byte : goal.invariant-loop-byte

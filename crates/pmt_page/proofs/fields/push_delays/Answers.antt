@@ -1,5 +1,4 @@
-use Rattle.std.proofs.Common.{◌∷◌, arith}
-use Rattle.pmt_page.specs.Columns.{safe_field}
+use Rattle.pmt_page.proofs.Prelude.{◌∷◌, arith, safe_field}
 use Rattle.pmt_page.proofs.Pushing.{piece-pushed, pieces-pushed}
 use Rattle.pmt_page.proofs.fields.push_delays.Goals as goal
 

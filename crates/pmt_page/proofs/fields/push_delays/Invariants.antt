@@ -1,6 +1,4 @@
-use Rattle.std.proofs.Common.{◌≡◌, ◌++◌, ◌∷◌, drop}
-use Rattle.std.specs.List.{flat_map}
-use Rattle.pmt_page.specs.Columns.{safe_field}
+use Rattle.pmt_page.proofs.Prelude.{◌≡◌, ◌++◌, ◌∷◌, drop, flat_map, safe_field}
 use Rattle.pmt_page.proofs.fields.push_delays.Given as goal
 
 abbrev pub invariant-loop-one : goal.invariant-loop-one

@@ -1,5 +1,4 @@
-use Rattle.std.proofs.Common.{arith, refl}
-use Rattle.pmt_page.specs.Columns.{steps}
+use Rattle.pmt_page.proofs.Prelude.{arith, refl, steps}
 use Rattle.pmt_page.proofs.Pushing.{item-pushed, items-pushed}
 use Rattle.pmt_page.proofs.fields.push_steps.Goals as goal
 

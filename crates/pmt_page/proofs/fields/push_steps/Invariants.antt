@@ -1,5 +1,4 @@
-use Rattle.std.proofs.Common.{◌≡◌, ◌++◌, drop}
-use Rattle.pmt_page.specs.Columns.{steps}
+use Rattle.pmt_page.proofs.Prelude.{◌≡◌, ◌++◌, drop, steps}
 use Rattle.pmt_page.proofs.fields.push_steps.Given as goal
 
 abbrev pub invariant-loop-number : goal.invariant-loop-number

@@ -1,5 +1,4 @@
-use Rattle.std.proofs.Common.{arith}
-use Rattle.pmt_page.specs.Columns.{verdict_letter}
+use Rattle.pmt_page.proofs.Prelude.{arith, verdict_letter}
 use Rattle.pmt_page.proofs.Pushing.{letter-pushed, letters-pushed}
 use Rattle.pmt_page.proofs.fields.push_verdicts.Goals as goal
 

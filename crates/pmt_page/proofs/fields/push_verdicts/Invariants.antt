@@ -1,5 +1,4 @@
-use Rattle.std.proofs.Common.{◌≡◌, ◌++◌, drop, map}
-use Rattle.pmt_page.specs.Columns.{verdict_letter}
+use Rattle.pmt_page.proofs.Prelude.{◌≡◌, ◌++◌, drop, map, verdict_letter}
 use Rattle.pmt_page.proofs.fields.push_verdicts.Given as goal
 
 abbrev pub invariant-loop-verdict : goal.invariant-loop-verdict

@@ -1,5 +1,4 @@
-use Rattle.std.proofs.Common.{arith, refl}
-use Rattle.pmt_page.specs.declared.labels.Label.{Label}
+use Rattle.pmt_page.proofs.Prelude.{arith, refl, Label}
 use Rattle.pmt_page.proofs.Pushing.{letter-pushed, letters-pushed}
 use Rattle.pmt_page.proofs.labels.events_of.Goals as goal
 

@@ -1,5 +1,4 @@
-use Rattle.std.proofs.Common.{◌≡◌, ◌++◌, drop, map}
-use Rattle.pmt_page.specs.declared.labels.Label.{Label}
+use Rattle.pmt_page.proofs.Prelude.{◌≡◌, ◌++◌, drop, map, Label}
 use Rattle.pmt_page.proofs.labels.events_of.Given as goal
 
 abbrev pub invariant-loop-label : goal.invariant-loop-label

@@ -1,7 +1,4 @@
-use Rattle.std.proofs.Common.{List, ℕ, map, ap, ◌∙◌, ◌++◌}
-use Rattle.std.specs.Borrow.{Bor}
-use Rattle.pmt_page.specs.Pages.{quoted}
-use Rattle.pmt_page.specs.Columns.{listed, steps}
+use Rattle.pmt_page.proofs.Prelude.{List, ℕ, map, ap, ◌∙◌, ◌++◌, Bor, quoted, listed, steps}
 use Rattle.pmt_page.proofs.Pushing.{more}
 use Rattle.pmt_page.proofs.labels.labels_text.Goals as goal
 

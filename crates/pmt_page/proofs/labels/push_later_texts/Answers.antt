@@ -1,7 +1,4 @@
-use Rattle.std.proofs.Common.{◌∷◌, List, ℕ, map, arith, refl}
-use Rattle.std.specs.Borrow.{Bor}
-use Rattle.std.specs.List.{flat_map}
-use Rattle.pmt_page.specs.Pages.{quoted}
+use Rattle.pmt_page.proofs.Prelude.{◌∷◌, List, ℕ, map, arith, refl, Bor, flat_map, quoted}
 use Rattle.pmt_page.proofs.Pushing.{item-pushed, items-pushed}
 use Rattle.pmt_page.proofs.labels.push_later_texts.Goals as goal
 

@@ -1,7 +1,4 @@
-use Rattle.std.proofs.Common.{◌≡◌, ◌++◌, ◌∷◌, List, ℕ, drop, map}
-use Rattle.std.specs.Borrow.{Bor}
-use Rattle.std.specs.List.{flat_map}
-use Rattle.pmt_page.specs.Pages.{quoted}
+use Rattle.pmt_page.proofs.Prelude.{◌≡◌, ◌++◌, ◌∷◌, List, ℕ, drop, map, Bor, flat_map, quoted}
 use Rattle.pmt_page.proofs.labels.push_later_texts.Given as goal
 
 abbrev pub invariant-loop-one : goal.invariant-loop-one

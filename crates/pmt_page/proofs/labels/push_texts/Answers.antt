@@ -1,5 +1,4 @@
-use Rattle.std.proofs.Common.{arith}
-use Rattle.std.proofs.lemmas.Grind.{elements}
+use Rattle.pmt_page.proofs.Prelude.{arith, elements}
 use Rattle.pmt_page.proofs.labels.push_texts.Goals as goal
 
 pub returns-in-empty : goal.returns-in-empty

@@ -1,8 +1,5 @@
-use Rattle.std.proofs.Common.{◌≡◌, ◌++◌, [], List, ℕ, map, take, length, get_or, Some, slice_get, sym, ap, subst, ◌∙◌, arith, Bor, ◌<◌}
-use Rattle.std.proofs.lemmas.List.{take_all, take_more}
-use Rattle.std.specs.List.{list_any}
-use Rattle.pmt_page.specs.Pages.{AreTexts}
-use Rattle.pmt_page.specs.declared.labels.Label.{Label}
+use Rattle.pmt_page.proofs.Prelude.{◌≡◌, ◌++◌, [], List, ℕ, map, take, length, get_or, Some, slice_get, sym, ap, subst, ◌∙◌, arith, ◌<◌, take_all, take_more, list_any, AreTexts, Label}
+use Rattle.std.proofs.Common.{Bor}
 use Rattle.pmt_page.proofs.LabelLemmas.{texts_of, found_still, found_next, found_at, texts-distinct, same_text}
 use Rattle.pmt_page.proofs.labels.texts_of.Goals as goal
 

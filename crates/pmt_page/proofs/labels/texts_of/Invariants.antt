@@ -1,6 +1,4 @@
-use Rattle.std.proofs.Common.{◌≡◌, List, ℕ, take, map, slice_get, Some}
-use Rattle.std.specs.Borrow.{Bor}
-use Rattle.pmt_page.specs.declared.labels.Label.{Label}
+use Rattle.pmt_page.proofs.Prelude.{◌≡◌, List, ℕ, take, map, slice_get, Some, Bor, Label}
 use Rattle.pmt_page.proofs.labels.texts_of.Given as goal
 
 abbrev pub invariant-loop-label : goal.invariant-loop-label

@@ -1,5 +1,4 @@
-use Rattle.std.proofs.Common.{rules, append_assoc}
-use Rattle.pmt_page.specs.Pages.{filled}
+use Rattle.pmt_page.proofs.Prelude.{rules, append_assoc, filled}
 use Rattle.pmt_page.proofs.page.filled.Goals as goal
 
 pub returns : goal.returns

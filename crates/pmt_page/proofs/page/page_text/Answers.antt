@@ -1,5 +1,4 @@
-use Rattle.std.proofs.Common.{◌≡◌, IfOk, subst}
-use Rattle.pmt_page.specs.Pages.{Parts, filled, page}
+use Rattle.pmt_page.proofs.Prelude.{◌≡◌, IfOk, subst, Parts, filled, page}
 use Rattle.pmt_page.proofs.page.page_text.Goals as goal
 
 pub returns : goal.returns

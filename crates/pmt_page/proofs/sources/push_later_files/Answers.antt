@@ -1,5 +1,4 @@
-use Rattle.std.proofs.Common.{◌∷◌, arith}
-use Rattle.pmt_page.specs.Pages.{source_file}
+use Rattle.pmt_page.proofs.Prelude.{◌∷◌, arith, source_file}
 use Rattle.pmt_page.proofs.Pushing.{piece-pushed, pieces-pushed}
 use Rattle.pmt_page.proofs.sources.push_later_files.Goals as goal
 

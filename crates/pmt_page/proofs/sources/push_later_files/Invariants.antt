@@ -1,6 +1,4 @@
-use Rattle.std.proofs.Common.{◌≡◌, ◌++◌, ◌∷◌, drop}
-use Rattle.std.specs.List.{flat_map}
-use Rattle.pmt_page.specs.Pages.{source_file}
+use Rattle.pmt_page.proofs.Prelude.{◌≡◌, ◌++◌, ◌∷◌, drop, flat_map, source_file}
 use Rattle.pmt_page.proofs.sources.push_later_files.Given as goal
 
 abbrev pub invariant-loop-file : goal.invariant-loop-file

@@ -1,6 +1,4 @@
-use Rattle.std.proofs.Common.{◌≡◌, ◌++◌, ◌∷◌, drop}
-use Rattle.std.specs.List.{flat_map}
-use Rattle.pmt_page.specs.Pages.{source_part}
+use Rattle.pmt_page.proofs.Prelude.{◌≡◌, ◌++◌, ◌∷◌, drop, flat_map, source_part}
 use Rattle.pmt_page.proofs.sources.push_later_parts.Given as goal
 
 abbrev pub invariant-loop-part : goal.invariant-loop-part
