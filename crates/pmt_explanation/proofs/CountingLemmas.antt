@@ -7,7 +7,8 @@ use Rattle.std.proofs.lemmas.List.Folds.{list_any-append}
 use Rattle.std.proofs.lemmas.List.Sums.{sum_by-cons, count_by_more_yes, count_by_more_no}
 use Rattle.pmt_model.specs.declared.event.Event.{Event}
 use Rattle.pmt_explanation.specs.declared.counting.Counts.{Counts}
-use Rattle.pmt_explanation.specs.Summing.{has_made, is_fence, is_flush, is_store, threads_of}
+use Rattle.pmt_causes.specs.Late.{is_fence, is_flush, is_store}
+use Rattle.pmt_explanation.specs.Summing.{has_made, threads_of}
 
 counted : (f : ℕ → Bool) (a : ℕ) (xs : List Bool) → ((k : ℕ) → k < length xs → get_or xs k false ≡ f (a + k)) → count_by (λ (b : Bool). b) xs ≡ count_by f (range_with_len a (length xs))
 counted f a [] h = refl

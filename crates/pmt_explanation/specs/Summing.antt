@@ -2,8 +2,7 @@
 use Rattle.std.specs.Prelude.{◌≡◌, ℕ, ◌-◌, ◌*◌, ◌/◌, ◌^◌, ◌==◌, min, if◌then◌else◌, Bool, true, false, List, count_by, length, ◌||◌, not, ◌<◌, ◌≤◌, Option, None, Some, bytes_eq}
 use Rattle.std.specs.List.{list_any, range_with_len}
 use Rattle.pmt_model.specs.declared.event.Event.{Event}
-use Rattle.pmt_model.specs.declared.event.Op.{Op}
-use Rattle.pmt_model.specs.declared.event.Op.TheVariants.{Store, Clwb, ClflushOpt, Clflush, Sfence, Mfence, IsPersist, IsOrderedBefore}
+use Rattle.pmt_causes.specs.Late.{is_fence, is_flush, is_store}
 use Rattle.pmt_reasons.specs.declared.reason.Reason.{Reason}
 use Rattle.pmt_reasons.specs.declared.reason.Reason.TheVariants.{Safe, Unfenced, Repeated, Overtaken, Empty, Useless}
 use Rattle.pmt_entries.specs.Prelude.{Dropped, label_of as number_of}
@@ -16,36 +15,6 @@ use Rattle.pmt_explanation.specs.declared.counting.Counts.{Counts}
 use Rattle.pmt_explanation.specs.declared.explaining.Explanation.{Explanation}
 use Rattle.pmt_explanation.specs.declared.summing.Summary.{Summary}
 use Rattle.pmt_entries.specs.declared.weight.Weight.TheVariants as weights
-
-abbrev pub is_store : Op → Bool
-is_store (Store w) = true
-is_store (Clwb a) = false
-is_store (ClflushOpt a) = false
-is_store (Clflush a) = false
-is_store Sfence = false
-is_store Mfence = false
-is_store (IsPersist r) = false
-is_store (IsOrderedBefore r q) = false
-
-abbrev pub is_flush : Op → Bool
-is_flush (Store w) = false
-is_flush (Clwb a) = true
-is_flush (ClflushOpt a) = true
-is_flush (Clflush a) = true
-is_flush Sfence = false
-is_flush Mfence = false
-is_flush (IsPersist r) = false
-is_flush (IsOrderedBefore r q) = false
-
-abbrev pub is_fence : Op → Bool
-is_fence (Store w) = false
-is_fence (Clwb a) = false
-is_fence (ClflushOpt a) = false
-is_fence (Clflush a) = false
-is_fence Sfence = true
-is_fence Mfence = true
-is_fence (IsPersist r) = false
-is_fence (IsOrderedBefore r q) = false
 
 -- It is a fence that is dropped for this reason.
 abbrev pub is_reason_of_fence : Reason → Bool

@@ -1,6 +1,7 @@
 //! How many events of each kind and threads there are.
 ghost use Rattle.std.specs.Prelude.{◌≡◌, ◌+◌, ◌^◌, ◌<◌, ◌≤◌, Bool, cond, count_by};
-ghost use Rattle.pmt_explanation.specs.Summing.{AreCounts, is_fence as fences_in, is_flush as flushes_in, is_store as stores_in, is_reason_of_fence as drops_fence, per_cent as share_of};
+ghost use Rattle.pmt_causes.specs.Late.{is_fence as fences_in, is_flush as flushes_in, is_store as stores_in};
+ghost use Rattle.pmt_explanation.specs.Summing.{AreCounts, is_reason_of_fence as drops_fence, per_cent as share_of};
 
 use pmt_model::{Event, Op};
 use pmt_reasons::Reason;

@@ -15,17 +15,11 @@ use Rattle.pmt_hints.specs.NamedBytes.{AreNamedBytes, HasByte}
 -- The line of an act that is a store, and that of one that is a flush.
 abbrev pub store_line : Act → Option ℕ
 store_line (Stores l w) = Some l
-store_line (Flushes t l) = None
-store_line (Clflushes l) = None
-store_line (Fences t) = None
-store_line Asserts = None
+store_line a = None
 
 abbrev pub flush_line : Act → Option ℕ
-flush_line (Stores l w) = None
 flush_line (Flushes t l) = Some l
-flush_line (Clflushes l) = None
-flush_line (Fences t) = None
-flush_line Asserts = None
+flush_line a = None
 
 -- These are those of the first n events that have the property, in their order.
 abbrev pub AreUpTo : (ℕ → Type 0) → ℕ → List ℕ → Type 0

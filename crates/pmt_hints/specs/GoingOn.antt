@@ -12,13 +12,7 @@ use Rattle.pmt_causes.specs.contracts.failure_keys.OriginPartialEq.TheImpl as or
 -- The last store of thread t, once the op with this number by thread u is met.
 abbrev pub store_of_thread : Op → ℕ → ℕ → ℕ → ℕ → ℕ
 store_of_thread (Store w) u number t old = if u == t then number else old
-store_of_thread (Clwb a) u number t old = old
-store_of_thread (ClflushOpt a) u number t old = old
-store_of_thread (Clflush a) u number t old = old
-store_of_thread Sfence u number t old = old
-store_of_thread Mfence u number t old = old
-store_of_thread (IsPersist r) u number t old = old
-store_of_thread (IsOrderedBefore r q) u number t old = old
+store_of_thread o u number t old = old
 
 -- The bytes of an op that is a store, and of an event.
 abbrev pub part : Written → Part
@@ -26,13 +20,7 @@ part w = record { addr = w.addr; len = length w.bytes }
 
 abbrev pub op_part : Op → Option Part
 op_part (Store w) = Some (part w)
-op_part (Clwb a) = None
-op_part (ClflushOpt a) = None
-op_part (Clflush a) = None
-op_part Sfence = None
-op_part Mfence = None
-op_part (IsPersist r) = None
-op_part (IsOrderedBefore r q) = None
+op_part o = None
 
 abbrev pub event_part : Option Event → Option Part
 event_part None = None
@@ -127,8 +115,5 @@ is_line_short fences rests further t l = nat_lt (of_thread fences t) (flush_at r
 
 -- The same of an act.
 abbrev pub short_so : PerThread → LastFlushes → LastFlushes → Act → Bool
-short_so fences rests further (Stores l w) = false
 short_so fences rests further (Flushes t l) = is_line_short fences rests further t l
-short_so fences rests further (Clflushes l) = false
-short_so fences rests further (Fences t) = false
-short_so fences rests further Asserts = false
+short_so fences rests further a = false

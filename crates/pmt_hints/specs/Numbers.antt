@@ -56,13 +56,7 @@ mark_by r at number s addr old = if is_same r s then (if at == addr then old els
 -- Once its op with this number is met.
 abbrev pub op_by : Storer → Op → ℕ → Storer → ℕ → ℕ → ℕ
 op_by r (Store w) number s addr old = mark_by r w.addr number s addr old
-op_by r (Clwb a) number s addr old = old
-op_by r (ClflushOpt a) number s addr old = old
-op_by r (Clflush a) number s addr old = old
-op_by r Sfence number s addr old = old
-op_by r Mfence number s addr old = old
-op_by r (IsPersist A) number s addr old = old
-op_by r (IsOrderedBefore A B) number s addr old = old
+op_by r o number s addr old = old
 
 abbrev pub noted_by : Bool → Storer → Op → ℕ → Storer → ℕ → ℕ → ℕ
 noted_by is_mark r o number s addr old = if is_mark then op_by r o number s addr old else old
@@ -70,13 +64,7 @@ noted_by is_mark r o number s addr old = if is_mark then op_by r o number s addr
 -- The op is a store, and its thread has not fenced since its last mark, nor since the last one from there at another address.
 abbrev pub op_after : PerThread → PerThread → MarksFrom → Storer → Op → Bool
 op_after fences recent marks s (Store w) = nat_lt (of_thread fences s.thread) (of_thread recent s.thread) && nat_lt (of_thread fences s.thread) (mark_elsewhere marks s w.addr)
-op_after fences recent marks s (Clwb a) = false
-op_after fences recent marks s (ClflushOpt a) = false
-op_after fences recent marks s (Clflush a) = false
-op_after fences recent marks s Sfence = false
-op_after fences recent marks s Mfence = false
-op_after fences recent marks s (IsPersist A) = false
-op_after fences recent marks s (IsOrderedBefore A B) = false
+op_after fences recent marks s o = false
 
 -- So it is, and it is no mark.
 abbrev pub after_mark : PerThread → PerThread → MarksFrom → Bool → Storer → Op → Bool
@@ -105,48 +93,30 @@ pub record IsAfterMark (T : Recording) (labels : List (Option ℕ)) (i : ℕ) : 
 
 -- The fence of thread t that is met last, once the act with this number is met.
 abbrev pub fence_by : Act → ℕ → ℕ → ℕ → ℕ
-fence_by (Stores l w) number t old = old
-fence_by (Flushes u l) number t old = old
-fence_by (Clflushes l) number t old = old
 fence_by (Fences u) number t old = if u == t then number else old
-fence_by Asserts number t old = old
+fence_by a number t old = old
 
 -- The flush of line l by thread t, alike.
 abbrev pub flush_by : Act → ℕ → ℕ → ℕ → ℕ → ℕ
-flush_by (Stores k w) number t l old = old
 flush_by (Flushes u k) number t l old = if u == t && k == l then number else old
-flush_by (Clflushes k) number t l old = old
-flush_by (Fences u) number t l old = old
-flush_by Asserts number t l old = old
+flush_by a number t l old = old
 
 -- The store of thread t, alike, where the act is thread u's.
 abbrev pub any_store_by : Act → ℕ → ℕ → ℕ → ℕ → ℕ
 any_store_by (Stores l w) u number t old = if u == t then number else old
-any_store_by (Flushes v l) u number t old = old
-any_store_by (Clflushes l) u number t old = old
-any_store_by (Fences v) u number t old = old
-any_store_by Asserts u number t old = old
+any_store_by a u number t old = old
 
 -- By the last fences and flushes before it: the act by thread t is a store to a line with an open flush.
 abbrev pub after_open : PerThread → LastFlushes → ℕ → Act → Bool
 after_open fences flushes t (Stores l w) = nat_lt (of_thread fences t) (flush_at flushes t l)
-after_open fences flushes t (Flushes u l) = false
-after_open fences flushes t (Clflushes l) = false
-after_open fences flushes t (Fences u) = false
-after_open fences flushes t Asserts = false
+after_open fences flushes t a = false
 
 -- The next store of thread t to another line than l, once the act with this number by thread u is met.
 abbrev pub store_by : Act → ℕ → ℕ → ℕ → ℕ → ℕ → ℕ
 store_by (Stores k w) u number t l old = if u == t then (if k == l then old else number) else old
-store_by (Flushes v k) u number t l old = old
-store_by (Clflushes k) u number t l old = old
-store_by (Fences v) u number t l old = old
-store_by Asserts u number t l old = old
+store_by a u number t l old = old
 
 -- By the next fences and stores after it: the act is a flush, and its thread stores to another line before it fences.
 abbrev pub open_so : PerThread → NextStores → Act → Bool
-open_so fences stores (Stores l w) = false
 open_so fences stores (Flushes t l) = nat_lt (elsewhere_at stores t l) (of_thread fences t)
-open_so fences stores (Clflushes l) = false
-open_so fences stores (Fences t) = false
-open_so fences stores Asserts = false
+open_so fences stores a = false

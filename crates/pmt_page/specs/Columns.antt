@@ -78,33 +78,17 @@ first_address wanted (IsOrderedBefore r q) = of_range wanted r.addr
 
 abbrev pub first_length : Bool → Op → List ℕ
 first_length wanted (Store w) = (length w.bytes) ∷ []
-first_length wanted (Clwb a) = []
-first_length wanted (ClflushOpt a) = []
-first_length wanted (Clflush a) = []
-first_length wanted Sfence = []
-first_length wanted Mfence = []
 first_length wanted (IsPersist r) = of_range wanted r.len
 first_length wanted (IsOrderedBefore r q) = of_range wanted r.len
+first_length wanted o = []
 
 abbrev pub second_address : Bool → Op → List ℕ
-second_address wanted (Store w) = []
-second_address wanted (Clwb a) = []
-second_address wanted (ClflushOpt a) = []
-second_address wanted (Clflush a) = []
-second_address wanted Sfence = []
-second_address wanted Mfence = []
-second_address wanted (IsPersist r) = []
 second_address wanted (IsOrderedBefore r q) = of_range wanted q.addr
+second_address wanted o = []
 
 abbrev pub second_length : Bool → Op → List ℕ
-second_length wanted (Store w) = []
-second_length wanted (Clwb a) = []
-second_length wanted (ClflushOpt a) = []
-second_length wanted (Clflush a) = []
-second_length wanted Sfence = []
-second_length wanted Mfence = []
-second_length wanted (IsPersist r) = []
 second_length wanted (IsOrderedBefore r q) = of_range wanted q.len
+second_length wanted o = []
 
 -- What an event adds to a column of numbers.
 abbrev pub numbers_of : Bool → NumberColumn → Event → List ℕ
@@ -116,24 +100,14 @@ numbers_of wanted SecondLength e = second_length wanted e.op
 
 abbrev pub stored_bytes : Op → List ℕ
 stored_bytes (Store w) = w.bytes
-stored_bytes (Clwb a) = []
-stored_bytes (ClflushOpt a) = []
-stored_bytes (Clflush a) = []
-stored_bytes Sfence = []
-stored_bytes Mfence = []
-stored_bytes (IsPersist r) = []
-stored_bytes (IsOrderedBefore r q) = []
+stored_bytes o = []
 
 -- Whether it is a flush or a fence.
 abbrev pub may_be_dropped : Op → Bool
 may_be_dropped (Store w) = false
-may_be_dropped (Clwb a) = true
-may_be_dropped (ClflushOpt a) = true
-may_be_dropped (Clflush a) = true
-may_be_dropped Sfence = true
-may_be_dropped Mfence = true
 may_be_dropped (IsPersist r) = false
 may_be_dropped (IsOrderedBefore r q) = false
+may_be_dropped o = true
 
 -- ---- Of one verdict, one safe place, one dropped event
 
