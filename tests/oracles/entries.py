@@ -134,11 +134,13 @@ class Run:
         return {byte // self.size for span in ranges for byte in span}
 
     def has_contrast(self, flush):
-        """Whether most stores to the address that the flush's thread stores to next, in another line, are clear."""
+        """Whether most stores to the address that the flush's thread stores to next, in another line, and from the same
+        site as that store, are clear."""
         stores, key = self.of("store"), (self.thread(flush), self.line(flush))
         later = ((self.thread(store), self.line(store), store) for store in stores if store > flush)
         partner = next(store for thread, line, store in later if thread == key[0] and line != key[1])
-        same = {store for store in stores if self.event(store)[2] == self.event(partner)[2]}
+        spot = lambda store: (self.event(store)[2], self.site(store))
+        same = {store for store in stores if spot(store) == spot(partner)}
         return 2 * len(same & self.clear) > len(same)
 
     # Of sites and paths

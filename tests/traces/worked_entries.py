@@ -98,7 +98,11 @@ ENTRIES = {
     ),
     "half of all do": (f"{THRICE('s1 f1 |')} {THRICE('s0 f0 s1 f1 |')}", "check: check hint open_at_store f0"),
     "at another address": (
-        f"{THRICE('s1.8 f1 |')} s1.8 f1 | {THRICE('s0 f0 s1 f1 |')}",
+        f"{THRICE('s1.8@s1 f1 |')} s1.8@s1 f1 | {THRICE('s0 f0 s1 f1 |')}",
+        "check: check hint open_at_store f0",
+    ),
+    "from another site": (
+        f"{THRICE('s1@n f1 |')} s1@n f1 | {THRICE('s0 f0 s1 f1 |')}",
         "check: check hint open_at_store f0",
     ),
     "on one path, and most others do": (

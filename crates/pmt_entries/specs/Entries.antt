@@ -34,8 +34,8 @@ site_weight s =
 abbrev pub is_mostly_clear : Contrast → Bool
 is_mostly_clear c = nat_lt (c.all - c.clear) c.clear
 
--- A hint by its kind, its contrast and how many events it has. A flush that is open at a store weighs more where most other stores to that
--- address come with nothing open.
+-- A hint by its kind, its contrast and how many events it has. A flush that is open at a store weighs more where most stores to that
+-- address from that place come with nothing open.
 abbrev pub kind_weight : HintKind → Contrast → ℕ → Option Weight
 kind_weight kinds.OpenAtStore c count = if nat_le least_events count then Some (if is_mostly_clear c then Suspect else Check) else None
 kind_weight kinds.StoredAfterFlush c count = Some Check
@@ -196,8 +196,8 @@ abbrev pub is_open_hint : Hint → Bool
 is_open_hint h = is_open_kind h.kind
 
 -- The contrasts of these hints, if one is of such flushes: no other has any, and there are none then.
-abbrev pub AreContrastsIf : Recording → List Hint → List Contrast → Type 0
-AreContrastsIf T hints contrasts = (list_any is_open_hint hints ≡ true → AreContrasts T hints contrasts) × (list_any is_open_hint hints ≡ false → contrasts ≡ [])
+abbrev pub AreContrastsIf : Recording → List (Option ℕ) → List Hint → List Contrast → Type 0
+AreContrastsIf T frames hints contrasts = (list_any is_open_hint hints ≡ true → AreContrasts T frames hints contrasts) × (list_any is_open_hint hints ≡ false → contrasts ≡ [])
 
 -- What is told of a trace with these verdicts on its assertions, n causes of failed ones, these rows and hints. Its events have these
 -- numbers of innermost frames; these stores are told as never persisted, and each event waits for so many fences.
@@ -205,7 +205,7 @@ pub record AreEntries (T : Recording) (judged : List Judged) (n : ℕ) (frames :
   pub claimed : List Bool
   pub are_claimed : AreClaimedIf T table.places.items claimed
   pub sites : AreSites T frames table hints told waited claimed x.sites.items
-  pub contrasts : AreContrastsIf T hints x.contrasts.items
+  pub contrasts : AreContrastsIf T frames hints x.contrasts.items
   pub losses : AreLosses x.sites.items x.losses.items
   pub entries : AreByWeight (entries_in_turn T n frames table hints x.contrasts.items x.sites.items x.losses.items) x.entries.items
   pub verdict : x.verdict ≡ verdict table.places.items judged x.entries.items

@@ -46,7 +46,7 @@ pub struct Entries {
     pub sites: Vec<Site>,
     /// These in groups, by their first sites: members are indexes of `sites`.
     pub losses: Vec<Group<LossKey>>,
-    /// Of each hint how often what is stored to while its flush is open is stored to with nothing open. Empty if no hint is of such flushes.
+    /// Of each hint how often the place that stores while its flush is open does so with nothing open. Empty if no hint is of such flushes.
     pub contrasts: Vec<Contrast>,
     /// All entries, by weight; those of one weight failures first, then losses, hints, and sites and paths saved one fence late.
     pub entries: Vec<Entry>,
@@ -88,7 +88,7 @@ pub fn entries_of(
         claimed.as_slice(),
     )?;
     let losses = losses_of(alloc, sites.as_slice())?;
-    let contrasts = contrasts_if(alloc, trace, hints)?;
+    let contrasts = contrasts_if(alloc, trace, frames, hints)?;
     let mut entries = all_entries(
         alloc,
         trace,
@@ -112,13 +112,18 @@ pub fn entries_of(
 }
 
 // The contrasts of these hints. The trace is looked at only where one is of flushes that are open at a store: no other has any.
-fn contrasts_if(alloc: Global, trace: &Trace, hints: &[Hint]) -> Result<Vec<Contrast>, OutOfMemory>
-    ensures { IfOk result (λ contrasts. AreContrastsIf trace.now hints.now contrasts.items) }
+fn contrasts_if(
+    alloc: Global,
+    trace: &Trace,
+    frames: &[Option<u64>],
+    hints: &[Hint],
+) -> Result<Vec<Contrast>, OutOfMemory>
+    ensures { IfOk result (λ contrasts. AreContrastsIf trace.now frames.now hints.now contrasts.items) }
 {
     if !is_any_open(hints) {
         return Ok(Vec::new(alloc));
     }
-    let contrasts = contrasts_of(alloc, trace, hints)?;
+    let contrasts = contrasts_of(alloc, trace, frames, hints)?;
     Ok(contrasts)
 }
 

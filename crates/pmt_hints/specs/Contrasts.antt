@@ -1,4 +1,4 @@
--- How often what is stored to while a flush is open is stored to with nothing open.
+-- How often a place that stores to an address while a flush is open does so with nothing open.
 use Rattle.std.specs.Prelude.{◌≡◌, ◌≢◌, ℕ, suc, zero, ◌+◌, ◌-◌, ◌^◌, ◌<◌, ◌==◌, ◌&&◌, ◌||◌, Bool, true, false, not, if◌then◌else◌, nat_eq, List, length, map, Option, None, Some, unwrap_or, slice_get, slice_index_or}
 use Rattle.std.specs.declared.hash.FoldHasher.{FoldHasher}
 use Rattle.std.specs.declared.hash.BuildHasherDefault.{BuildHasherDefault}
@@ -9,6 +9,7 @@ use Rattle.pmt_causes.specs.declared.failure_keys.Origin.{Origin}
 use Rattle.pmt_causes.specs.declared.failure_keys.Origin.TheVariants.{Label, Thread}
 use Rattle.pmt_causes.specs.Groups.{origin_of}
 use Rattle.pmt_hints.specs.declared.contrast.Contrast.{Contrast}
+use Rattle.pmt_hints.specs.declared.contrast.Spot.{Spot}
 use Rattle.pmt_hints.specs.declared.hint.Hint.{Hint}
 use Rattle.pmt_hints.specs.declared.hint.HintKind.{HintKind}
 use Rattle.pmt_hints.specs.declared.hint.HintKind.TheVariants.{OpenAtStore}
@@ -18,6 +19,7 @@ use Rattle.pmt_hints.specs.Hints.{IsStoreBy}
 use Rattle.pmt_hints.specs.Numbers.{elsewhere_at, of_thread}
 use Rattle.pmt_hints.specs.declared.places.Places.{Places}
 use Rattle.pmt_causes.specs.contracts.failure_keys.OriginPartialEq.TheImpl as origin_eq
+use Rattle.pmt_hints.specs.contracts.contrast.SpotPartialEq.TheImpl as spot_eq
 
 -- Event j is a store by thread t after event i, to another line than l.
 abbrev pub IsStoreElsewhere : Recording → ℕ → ℕ → ℕ → ℕ → Type 0
@@ -28,18 +30,18 @@ pub record AreNextStores (T : Recording) (nexts : List ℕ) : Type 0 where
   pub size : length nexts ≡ length T.events
   pub each : (k x t l : ℕ) → slice_get nexts k ≡ Some x → IsAct T (suc k) (Flushes t l) → IsFirst (IsStoreElsewhere T t l (suc k)) (past_of T) x
 
--- The address to which the event stores, if it is a store.
-abbrev pub op_address : Op → Option ℕ
-op_address (Store w) = Some w.addr
-op_address o = None
+-- The spot of the event at i, if it is a store: its address, and its label or without one its thread.
+abbrev pub op_spot : List (Option ℕ) → ℕ → ℕ → Op → Option Spot
+op_spot labels i t (Store w) = Some (record { address = w.addr; place = origin_of labels i t })
+op_spot labels i t o = None
 
-abbrev pub event_address : Option Event → Option ℕ
-event_address None = None
-event_address (Some e) = op_address e.op
+abbrev pub spot_of : List (Option ℕ) → ℕ → Option Event → Option Spot
+spot_of labels i None = None
+spot_of labels i (Some e) = op_spot labels i e.thread e.op
 
-abbrev pub is_address : ℕ → Option ℕ → Bool
-is_address a None = false
-is_address a (Some b) = b == a
+abbrev pub is_spot : Spot → Option Spot → Bool
+is_spot s None = false
+is_spot s (Some r) = (spot_eq.ghosts).eq r s
 
 -- Clear: thread t has made no flush that waits for a fence since its last fence, in the first n events.
 abbrev pub clear_by : Act → ℕ → Bool → Bool
@@ -61,7 +63,7 @@ is_clear T t (suc n) = clear_over T.format (event T (suc n)) t (is_clear T t n)
 abbrev pub StoresWhenClear : Recording → Type 0
 StoresWhenClear T = (i t l : ℕ) → IsStoreBy T t l (suc i) → is_clear T t i ≡ true
 
--- No store, and one more, if it is one to the address; it may be clear.
+-- No store, and one more, if it is one of the spot; it may be clear.
 abbrev pub nothing : Contrast
 nothing = record { clear = 0; all = 0 }
 
@@ -70,33 +72,33 @@ more false clear c = c
 more true clear c = record { clear = if clear then c.clear + 1 else c.clear; all = c.all + 1 }
 
 -- The event after the first n.
-abbrev pub contrast_over : Recording → ℕ → ℕ → Option Event → Contrast → Contrast
-contrast_over T a n None c = c
-contrast_over T a n (Some e) c = more (is_address a (op_address e.op)) (is_clear T e.thread n) c
+abbrev pub contrast_over : Recording → List (Option ℕ) → Spot → ℕ → Option Event → Contrast → Contrast
+contrast_over T labels s n None c = c
+contrast_over T labels s n (Some e) c = more (is_spot s (op_spot labels (suc n) e.thread e.op)) (is_clear T e.thread n) c
 
--- How many of the first n events are stores to address a, and of these clear; and of all events.
-abbrev pub contrast_upto : Recording → ℕ → ℕ → Contrast
-contrast_upto T a zero = nothing
-contrast_upto T a (suc n) = contrast_over T a n (event T (suc n)) (contrast_upto T a n)
+-- How many of the first n events are stores of spot s, and of these clear; and of all events.
+abbrev pub contrast_upto : Recording → List (Option ℕ) → Spot → ℕ → Contrast
+contrast_upto T labels s zero = nothing
+contrast_upto T labels s (suc n) = contrast_over T labels s n (event T (suc n)) (contrast_upto T labels s n)
 
-abbrev pub contrast_at : Recording → ℕ → Contrast
-contrast_at T a = contrast_upto T a (length T.events)
+abbrev pub contrast_at : Recording → List (Option ℕ) → Spot → Contrast
+contrast_at T labels s = contrast_upto T labels s (length T.events)
 
-abbrev pub contrast_if : Recording → Option ℕ → Contrast
-contrast_if T None = nothing
-contrast_if T (Some a) = contrast_at T a
+abbrev pub contrast_if : Recording → List (Option ℕ) → Option Spot → Contrast
+contrast_if T labels None = nothing
+contrast_if T labels (Some s) = contrast_at T labels s
 
--- What is stored to while the first flush of a hint is open, if it is a hint of such flushes.
-abbrev pub kind_address : Recording → ℕ → HintKind → Option ℕ
-kind_address T next OpenAtStore = event_address (event T next)
-kind_address T next kind = None
+-- The spot of what is stored while the first flush of a hint is open, if it is a hint of such flushes.
+abbrev pub kind_spot : Recording → List (Option ℕ) → ℕ → HintKind → Option Spot
+kind_spot T labels next OpenAtStore = spot_of labels next (event T next)
+kind_spot T labels next kind = None
 
-abbrev pub address_in : Recording → List ℕ → Hint → Option ℕ
-address_in T nexts h = kind_address T (slice_index_or nexts (h.first - 1) 0) h.kind
+abbrev pub spot_in : Recording → List (Option ℕ) → List ℕ → Hint → Option Spot
+spot_in T labels nexts h = kind_spot T labels (slice_index_or nexts (h.first - 1) 0) h.kind
 
 -- The contrast of each of these hints.
-abbrev pub AreContrasts : Recording → List Hint → List Contrast → Type 0
-AreContrasts T hints contrasts = (nexts : List ℕ) × AreNextStores T nexts × (contrasts ≡ map (λ (h : Hint). contrast_if T (address_in T nexts h)) hints)
+abbrev pub AreContrasts : Recording → List (Option ℕ) → List Hint → List Contrast → Type 0
+AreContrasts T labels hints contrasts = (nexts : List ℕ) × AreNextStores T nexts × (contrasts ≡ map (λ (h : Hint). contrast_if T labels (spot_in T labels nexts h)) hints)
 
 -- By the next stores after it, that of an act which is a flush.
 abbrev pub next_by : NextStores → Act → ℕ
@@ -122,16 +124,16 @@ stores_open waiting t (Clflushes l) = false
 stores_open waiting t (Fences u) = false
 stores_open waiting t Asserts = false
 
--- Counts by address.
+-- Counts by spot.
 abbrev pub Counts : Type 0
-Counts = HashMap ℕ Contrast (BuildHasherDefault FoldHasher)
+Counts = HashMap Spot Contrast (BuildHasherDefault FoldHasher)
 
-abbrev pub count_at : Counts → ℕ → Option Contrast
-count_at counts a = get nat_eq counts a
+abbrev pub count_at : Counts → Spot → Option Contrast
+count_at counts s = get (spot_eq.ghosts).eq counts s
 
--- The address is one that these hints ask for.
-abbrev pub is_asked : Recording → List ℕ → List Hint → ℕ → Bool
-is_asked T nexts hints a = list_any (λ (h : Hint). is_address a (address_in T nexts h)) hints
+-- The spot is one that these hints ask for.
+abbrev pub is_asked : Recording → List (Option ℕ) → List ℕ → List Hint → Spot → Bool
+is_asked T labels nexts hints s = list_any (λ (h : Hint). is_spot s (spot_in T labels nexts h)) hints
 
 abbrev pub as_asked : Bool → Contrast → Option Contrast
 as_asked false c = None
@@ -146,12 +148,12 @@ abbrev pub IsSmall : Contrast → Type 0
 IsSmall c = (c.clear + 1 < 2 ^ 64) × (c.all + 1 < 2 ^ 64)
 
 -- The contrast of a hint, by these counts.
-abbrev pub counted_if : Counts → Option ℕ → Contrast
+abbrev pub counted_if : Counts → Option Spot → Contrast
 counted_if counts None = nothing
-counted_if counts (Some a) = unwrap_or (count_at counts a) nothing
+counted_if counts (Some s) = unwrap_or (count_at counts s) nothing
 
-abbrev pub contrast_by : Recording → List ℕ → Counts → Hint → Contrast
-contrast_by T nexts counts h = counted_if counts (address_in T nexts h)
+abbrev pub contrast_by : Recording → List (Option ℕ) → List ℕ → Counts → Hint → Contrast
+contrast_by T labels nexts counts h = counted_if counts (spot_in T labels nexts h)
 
 -- ---- Of which places flushes are told as open at a store
 

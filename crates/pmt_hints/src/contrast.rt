@@ -1,19 +1,20 @@
-//! How often what is stored to while a flush is open is stored to with nothing open.
+//! How often a place that stores to an address while a flush is open does so with nothing open.
 
-ghost use Rattle.std.specs.Prelude.{◌≡◌, ◌-◌, ◌<◌, ℕ, true, Some, map, option_map, slice_index_or, IfOk, OnOk};
+ghost use Rattle.std.specs.Prelude.{◌≡◌, ◌-◌, ◌<◌, true, Some, map, option_map, slice_index_or, IfOk, OnOk};
 ghost use Rattle.pmt_model.specs.Traces.{act_of, event};
-ghost use Rattle.pmt_hints.specs.Contrasts.{AreContrasts, AreNextStores, IsSmall, address_in, as_asked, asked_at, contrast_at, contrast_by, count_at, event_address, is_address, is_asked, more, next_by, nothing, op_address as address_of_op};
+ghost use Rattle.pmt_hints.specs.Contrasts.{AreContrasts, AreNextStores, IsSmall, as_asked, asked_at, contrast_at, contrast_by, count_at, is_asked, is_spot, more, next_by, nothing, op_spot as spot_of_op, spot_in, spot_of as spot_at};
 ghost use Rattle.pmt_hints.specs.declared.contrast.Contrast.{Contrast};
 
 use crate::hint::{Hint, HintKind};
 use crate::next_stores::NextStores;
 use crate::per_thread::PerThread;
 use crate::waiting::{is_clear, note_open};
+use pmt_causes::{Origin, origin_of};
 use pmt_model::{Format, Op, OutOfMemory, Trace, line_of};
 use std::alloc::Global;
 use std::collections::HashMap;
 
-/// How many stores of a trace are to an address.
+/// How many stores of a trace are to one address from one place.
 #[derive(Clone, Copy)]
 pub struct Contrast {
     /// Those with nothing open: their thread has made no clwb or clflushopt since its last fence.
@@ -22,11 +23,19 @@ pub struct Contrast {
     pub all: u64,
 }
 
-// By address; nothing of one that was not asked for.
-type Counts = HashMap<u64, Contrast>;
+/// What a store is to, and whence it comes.
+#[derive(Clone, Copy, PartialEq, Eq, Hash)]
+pub(crate) struct Spot {
+    pub(crate) address: u64,
+    pub(crate) place: Origin,
+}
 
-/// A contrast for each of these hints, in order: of flushes that are open at a store, how many stores are to the address that the thread
-/// of the first flush stores to next, in another line; of any other hint 0 and 0.
+// By spot; nothing of one that was not asked for.
+type Counts = HashMap<Spot, Contrast>;
+
+/// A contrast for each of these hints, in order, where events have these labels: of flushes that are open at a store, how many stores are
+/// to the address that the thread of the first flush stores to next, in another line, from the place of that store; of any other hint 0
+/// and 0.
 ///
 /// It takes two looks at each event, and a look-up at each store and each hint.
 ///
@@ -35,13 +44,14 @@ type Counts = HashMap<u64, Contrast>;
 pub fn contrasts_of(
     alloc: Global,
     trace: &Trace,
+    labels: &[Option<u64>],
     hints: &[Hint],
 ) -> Result<Vec<Contrast>, OutOfMemory>
-    ensures { IfOk result (λ contrasts. AreContrasts trace.now hints.now contrasts.items) }
+    ensures { IfOk result (λ contrasts. AreContrasts trace.now labels.now hints.now contrasts.items) }
 {
     let nexts = next_stores(alloc, trace)?;
-    let counts = counts_of(alloc, trace, nexts.as_slice(), hints)?;
-    let contrasts = contrasts_by(alloc, trace, nexts.as_slice(), hints, &counts)?;
+    let counts = counts_of(alloc, trace, labels, nexts.as_slice(), hints)?;
+    let contrasts = contrasts_by(alloc, trace, labels, nexts.as_slice(), hints, &counts)?;
     Ok(contrasts)
 }
 
@@ -49,25 +59,32 @@ pub fn contrasts_of(
 fn contrasts_by(
     alloc: Global,
     trace: &Trace,
+    labels: &[Option<u64>],
     nexts: &[u64],
     hints: &[Hint],
     counts: &Counts,
 ) -> Result<Vec<Contrast>, OutOfMemory>
-    ensures { IfOk result (λ contrasts. contrasts.items ≡ map (contrast_by trace.now nexts.now counts.now) hints.now) }
+    ensures { IfOk result (λ contrasts. contrasts.items ≡ map (contrast_by trace.now labels.now nexts.now counts.now) hints.now) }
 {
     hints
         .iter()
-        .map(|hint| contrast_of(trace, nexts, counts, hint))
+        .map(|hint| contrast_of(trace, labels, nexts, counts, hint))
         .collect(alloc)
 }
 
 // The contrast of the hint.
-fn contrast_of(trace: &Trace, nexts: &[u64], counts: &Counts, hint: &Hint) -> Contrast
-    ensures { result ≡ contrast_by trace.now nexts.now counts.now hint.now }
+fn contrast_of(
+    trace: &Trace,
+    labels: &[Option<u64>],
+    nexts: &[u64],
+    counts: &Counts,
+    hint: &Hint,
+) -> Contrast
+    ensures { result ≡ contrast_by trace.now labels.now nexts.now counts.now hint.now }
 {
-    match address_of(trace, nexts, hint) {
+    match spot_of(trace, labels, nexts, hint) {
         None => none(),
-        Some(address) => counts.get(&address).copied().unwrap_or(none()),
+        Some(spot) => counts.get(&spot).copied().unwrap_or(none()),
     }
 }
 
@@ -112,12 +129,12 @@ fn next_of(stores: &NextStores, format: Format, thread: u8, op: Op) -> u64
     }
 }
 
-// What is stored to while the first flush of the hint is open, if it is a hint of such flushes.
-fn address_of(trace: &Trace, nexts: &[u64], hint: &Hint) -> Option<u64>
-    ensures { result ≡ address_in trace.now nexts.now hint.now }
+// The spot of what is stored while the first flush of the hint is open, if it is a hint of such flushes.
+fn spot_of(trace: &Trace, labels: &[Option<u64>], nexts: &[u64], hint: &Hint) -> Option<Spot>
+    ensures { result ≡ spot_in trace.now labels.now nexts.now hint.now }
 {
     match hint.kind {
-        HintKind::OpenAtStore => stored_to(trace, next_at(nexts, hint.first)),
+        HintKind::OpenAtStore => event_spot(trace, labels, next_at(nexts, hint.first)),
         HintKind::StoredAfterFlush
         | HintKind::SplitWord
         | HintKind::OneLineShort
@@ -136,22 +153,25 @@ fn next_at(nexts: &[u64], number: u64) -> u64
     }
 }
 
-// The address of the event, if it is a store.
-fn stored_to(trace: &Trace, number: u64) -> Option<u64>
-    ensures { result ≡ event_address (event trace.now number) }
+// The spot of the event, if it is a store.
+fn event_spot(trace: &Trace, labels: &[Option<u64>], number: u64) -> Option<Spot>
+    ensures { result ≡ spot_at labels.now number (event trace.now number) }
 {
     let Some(event) = trace.get(number) else {
         return None;
     };
-    op_address(event.op)
+    op_spot(labels, number, event.thread, event.op)
 }
 
-// The address of the op, if it is a store.
-fn op_address(op: Op) -> Option<u64>
-    ensures { result ≡ address_of_op op }
+// The spot of the op with this number, if it is a store.
+fn op_spot(labels: &[Option<u64>], number: u64, thread: u8, op: Op) -> Option<Spot>
+    ensures { result ≡ spot_of_op labels.now number thread op }
 {
     match op {
-        Op::Store(store) => Some(store.addr().get()),
+        Op::Store(store) => Some(Spot {
+            address: store.addr().get(),
+            place: origin_of(labels, number, thread),
+        }),
         Op::Clwb(_)
         | Op::ClflushOpt(_)
         | Op::Clflush(_)
@@ -162,67 +182,71 @@ fn op_address(op: Op) -> Option<u64>
     }
 }
 
-// How many stores are to each address that these hints ask for.
+// How many stores are of each spot that these hints ask for.
 fn counts_of(
     alloc: Global,
     trace: &Trace,
+    labels: &[Option<u64>],
     nexts: &[u64],
     hints: &[Hint],
 ) -> Result<Counts, OutOfMemory>
-    ensures { IfOk result (λ counts. (a : ℕ) → count_at counts a ≡ as_asked (is_asked trace.now nexts.now hints.now a) (contrast_at trace.now a)) }
+    ensures { IfOk result (λ counts. (s : _) → count_at counts s ≡ as_asked (is_asked trace.now labels.now nexts.now hints.now s) (contrast_at trace.now labels.now s)) }
 {
-    let mut counts = asked_counts(alloc, trace, nexts, hints)?;
+    let mut counts = asked_counts(alloc, trace, labels, nexts, hints)?;
     let format = trace.format();
     let events = trace.events();
     let mut waiting = PerThread::new(0);
     for index in 0..events.len() {
         let event = events[index];
+        let number = index as u64 + 1;
         let is_clear = is_clear(&waiting, event.thread);
-        count(&mut counts, event.op, is_clear)?;
+        let spot = op_spot(labels, number, event.thread, event.op);
+        count(&mut counts, spot, is_clear)?;
         note_open(&mut waiting, format, event.thread, event.op);
     }
     Ok(counts)
 }
 
-// The addresses that these hints ask for, without a store.
+// The spots that these hints ask for, without a store.
 fn asked_counts(
     alloc: Global,
     trace: &Trace,
+    labels: &[Option<u64>],
     nexts: &[u64],
     hints: &[Hint],
 ) -> Result<Counts, OutOfMemory>
-    ensures { IfOk result (λ counts. (a : ℕ) → count_at counts a ≡ as_asked (is_asked trace.now nexts.now hints.now a) nothing) }
+    ensures { IfOk result (λ counts. (s : _) → count_at counts s ≡ as_asked (is_asked trace.now labels.now nexts.now hints.now s) nothing) }
 {
     let mut counts = HashMap::new(alloc);
     for hint in hints {
-        ask(&mut counts, address_of(trace, nexts, hint))?;
+        ask(&mut counts, spot_of(trace, labels, nexts, hint))?;
     }
     Ok(counts)
 }
 
-// Asks for the address, if there is one.
-fn ask(counts: &mut Counts, address: Option<u64>) -> Result<(), OutOfMemory>
-    ensures { OnOk result ((a : ℕ) → count_at counts.new a ≡ asked_at (is_address a address) (count_at counts.old a)) }
+// Asks for the spot, if there is one.
+fn ask(counts: &mut Counts, spot: Option<Spot>) -> Result<(), OutOfMemory>
+    ensures { OnOk result ((s : _) → count_at counts.new s ≡ asked_at (is_spot s spot) (count_at counts.old s)) }
 {
-    match address {
+    match spot {
         None => Ok(()),
-        Some(address) => {
-            counts.insert(address, none())?;
+        Some(spot) => {
+            counts.insert(spot, none())?;
             Ok(())
         }
     }
 }
 
-// Counts the op, if it is a store to an address that is asked for.
-fn count(counts: &mut Counts, op: Op, is_clear: bool) -> Result<(), OutOfMemory>
-    requires { (a : ℕ) (c : Contrast) → count_at counts.old a ≡ Some c → IsSmall c }
-    ensures { OnOk result ((a : ℕ) → count_at counts.new a ≡ option_map (more (is_address a (address_of_op op)) is_clear) (count_at counts.old a)) }
+// Counts a store of the spot, if there is one and it is asked for.
+fn count(counts: &mut Counts, spot: Option<Spot>, is_clear: bool) -> Result<(), OutOfMemory>
+    requires { (s : _) (c : Contrast) → count_at counts.old s ≡ Some c → IsSmall c }
+    ensures { OnOk result ((s : _) → count_at counts.new s ≡ option_map (more (is_spot s spot) is_clear) (count_at counts.old s)) }
 {
-    let Some(address) = op_address(op) else {
+    let Some(spot) = spot else {
         return Ok(());
     };
-    if let Some(contrast) = counts.get(&address).copied() {
-        counts.insert(address, one_more(contrast, is_clear))?;
+    if let Some(contrast) = counts.get(&spot).copied() {
+        counts.insert(spot, one_more(contrast, is_clear))?;
     }
     Ok(())
 }

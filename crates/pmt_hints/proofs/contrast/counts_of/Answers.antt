@@ -10,12 +10,13 @@ pub loop-index-init : goal.loop-index-init
 loop-index-init c = record { clear = λ t small. ap (λ x. x == 0) (c.new-waiting.ensures t small); counts = c.in_ok-counts.ensures }
 
 pub count-requires : goal.count-requires
-count-requires c = λ a x some.
-    counts-small c.args.trace.now a c.loop-index.index (is_asked c.args.trace.now c.args.nexts.now c.args.hints.now a) (count_at c.loop-index.counts a) x (omega arith) (c.loop-index.invariant.counts a) some
+count-requires c = λ s x some.
+    counts-small c.args.trace.now c.args.labels.now s c.loop-index.index (is_asked c.args.trace.now c.args.labels.now c.args.nexts.now c.args.hints.now s) (count_at c.loop-index.counts s) x (omega arith) (c.loop-index.invariant.counts s) some
 
 pub loop-index-preserved : goal.loop-index-preserved
 loop-index-preserved c =
     let T = c.args.trace.now in
+    let labels = c.args.labels.now in
     let es = c.events-events.result.now in
     let i = c.loop-index.index in
     let e = c.index-events-index.result in
@@ -26,12 +27,13 @@ loop-index-preserved c =
     let is : c.is_clear-is_clear.result ≡ is_clear T e.thread i = c.is_clear-is_clear.ensures.value ∙ c.loop-index.invariant.clear e.thread c.is_clear-is_clear.ensures.small in
     record {
       clear = λ t small. clear-up T i e a t _ _ at own (c.note_open.ensures t small) (c.loop-index.invariant.clear t small);
-      counts = λ m. count-up T m i e _ (is_asked T c.args.nexts.now c.args.hints.now m) (count_at c.loop-index.counts m) (count_at c.count.new.counts m) at is (c.in_ok-count.ensures m) (c.loop-index.invariant.counts m);
+      counts = λ m. count-up T labels m i e _ (is_asked T labels c.args.nexts.now c.args.hints.now m) _ (count_at c.loop-index.counts m) (count_at c.count.new.counts m) at is c.op_spot-spot.ensures (c.in_ok-count.ensures m) (c.loop-index.invariant.counts m);
     }
 
 pub returns : goal.returns
 returns c = λ m.
     let T = c.args.trace.now in
+    let labels = c.args.labels.now in
     let long : length c.events-events.result.now ≡ length T.events = ap (λ xs. length xs) c.events-events.ensures.value in
     let all : c.loop-index.index ≡ length T.events = omega (arith, long) in
-    c.loop-index.invariant.counts m ∙ ap (λ n. as_asked (is_asked T c.args.nexts.now c.args.hints.now m) (contrast_upto T m n)) all
+    c.loop-index.invariant.counts m ∙ ap (λ n. as_asked (is_asked T labels c.args.nexts.now c.args.hints.now m) (contrast_upto T labels m n)) all

@@ -7,5 +7,5 @@ use Rattle.pmt_hints.proofs.contrast.counts_of.Given as goal
 abbrev pub invariant-loop-index : goal.invariant-loop-index
 invariant-loop-index l = record {
   clear : (t : ℕ) → t < 256 → (of_thread l.waiting t == 0) ≡ is_clear l.trace t l.index;
-  counts : (a : ℕ) → count_at l.counts a ≡ as_asked (is_asked l.trace l.nexts l.hints a) (contrast_upto l.trace a l.index);
+  counts : (s : _) → count_at l.counts s ≡ as_asked (is_asked l.trace l.labels l.nexts l.hints s) (contrast_upto l.trace l.labels s l.index);
 }
