@@ -1,5 +1,6 @@
 //! What stands below the entries of a screen.
 
+use crate::commands::push_command;
 use crate::covered::push_not_covered;
 use crate::meant::{push_ignored, push_replay};
 use crate::small::push_small;
@@ -9,7 +10,7 @@ use pmt_explanation::Summary;
 use pmt_model::Finding;
 use pmt_pen::Pen;
 use pmt_telling::{
-    Bytes, Made, Telling, Told, lines_of, pen_of, push_command, push_line, push_text, push_wrapped,
+    Bytes, Made, Telling, Told, lines_of, pen_of, push_line, push_text, push_wrapped,
 };
 
 // Adds what assertions do not cover and small things, as far as these have room, and what to do next, and how large the trace is; the entry is

@@ -1,13 +1,12 @@
 //! Entries in words.
 
-use crate::failures::{causes_told, failure_entry, loses_claimed};
-use crate::hints::hint_entry;
-use crate::left::left_entry;
-use crate::losses::{loss_entry, sites_of};
 use crate::meant::meant_entry;
 use crate::volatile::is_volatile;
 use pmt_entries::{Entry, Site, Subject, Weight};
-use pmt_telling::{Made, Telling, Told};
+use pmt_telling::{
+    Made, Telling, Told, causes_told, failure_entry, hint_entry, left_entry, loses_claimed,
+    loss_entry, sites_of,
+};
 
 // The most entries of a screen that are told.
 const MOST: usize = 5;

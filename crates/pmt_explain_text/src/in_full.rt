@@ -1,12 +1,12 @@
 //! A failed assertion in full, behind its entry.
 
+use crate::commands::push_command;
+use crate::events::{push_event, push_words};
 use crate::memory::{Cell, cells_of, push_memory};
 use pmt_failures::{ShownCrash, shown_crash};
 use pmt_model::Op;
 use pmt_pen::Pen;
-use pmt_telling::{
-    Bytes, Made, Telling, pen_of, push_command, push_event, push_words, push_wrapped,
-};
+use pmt_telling::{Bytes, Made, Telling, pen_of, push_wrapped};
 
 // The columns before the further lines of a row.
 const FURTHER: u64 = 10;

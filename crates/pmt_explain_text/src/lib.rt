@@ -3,19 +3,14 @@
 
 mod asked_rows;
 mod closing;
-mod contrast;
+mod commands;
 mod covered;
 mod entries;
-mod failures;
-mod hints;
+mod events;
 mod in_full;
-mod left;
-mod loss_story;
-mod losses;
 mod meant;
 mod memory;
 mod only;
-mod partners;
 mod screen;
 mod small;
 mod verdict;

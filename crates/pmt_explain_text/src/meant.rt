@@ -1,9 +1,11 @@
 //! Losses and delays that may be meant, each with the question that decides.
 
-use crate::losses::{late_in, lost_in, push_all};
+use crate::commands::{push_trace, push_word};
 use pmt_entries::Site;
 use pmt_pen::Pen;
-use pmt_telling::{Crashes, Made, Telling, Told, push_lines, push_trace, push_word, site_frame};
+use pmt_telling::{
+    Crashes, Made, Telling, Told, late_in, lost_in, push_all, push_lines, site_frame,
+};
 
 // The most sites that options are named for.
 const FEW: usize = 3;

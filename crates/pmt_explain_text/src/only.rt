@@ -1,9 +1,7 @@
 //! What was asked for alone, a row each.
 
 use crate::asked_rows::{push_dropped, push_late, push_lost, push_overwritten};
-use crate::failures::push_claim;
-use crate::hints::push_head;
-use crate::left::push_left_head;
+use crate::events::push_event;
 use pmt_asked::{Kind, is_asked_for};
 use pmt_entries::Subject;
 use pmt_explanation::first;
@@ -11,7 +9,7 @@ use pmt_failures::Unwritten;
 use pmt_model::Range;
 use pmt_pen::Pen;
 use pmt_reasons::Cause;
-use pmt_telling::{Made, Telling, pen_of, push_event, push_wrapped};
+use pmt_telling::{Made, Telling, pen_of, push_claim, push_head, push_left_head, push_wrapped};
 
 // The columns before the further lines of a row.
 const FURTHER: u64 = 6;

@@ -2,7 +2,6 @@
 
 use crate::closing::push_closing;
 use crate::entries::{Shown, shown_entries};
-use crate::failures::failure_entry;
 use crate::in_full::push_failure_in_full;
 use crate::only::push_rows;
 use crate::verdict::push_verdict;
@@ -12,8 +11,8 @@ use pmt_explanation::{Explanation, summary_of};
 use pmt_pen::Pen;
 use pmt_sources::{SourcePlace, place_at, place_of};
 use pmt_telling::{
-    Made, Screen, Telling, has_threads, lines_of, pen_of, push_brief, push_frame_source, push_full,
-    push_text, push_wrapped, spot_of,
+    Made, Screen, Telling, failure_entry, has_threads, lines_of, pen_of, push_brief,
+    push_frame_source, push_full, push_text, push_wrapped, spot_of,
 };
 use std::alloc::Global;
 use std::collections::HashSet;

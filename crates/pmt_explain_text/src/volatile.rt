@@ -1,10 +1,9 @@
 //! Fields that are stored again and again, and never saved in time: where a program has many, they are mostly meant to be volatile.
 
-use crate::contrast::missed_of;
 use pmt_causes::Origin;
 use pmt_entries::{Entry, Site, Subject, Weight, weight_of_site};
 use pmt_explanation::summary_of;
-use pmt_telling::{Made, Telling, site_frame};
+use pmt_telling::{Made, Telling, missed_of, site_frame};
 use std::collections::{HashMap, HashSet};
 
 // A slip concerns one in so many stores at most: it would be seen else.

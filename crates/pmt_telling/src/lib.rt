@@ -1,9 +1,14 @@
-//! What the texts for people are made of: what is told, entries, lines and words.
+//! What the texts for people are made of: words, rows and stories, and what is told of each entry.
 #![tactic(auto)]
 
-mod commands;
-mod events;
+mod contrast;
+mod failures;
+mod hints;
 mod layout;
+mod left;
+mod loss_story;
+mod losses;
+mod partners;
 mod rows;
 mod sites;
 mod story;
@@ -11,14 +16,15 @@ mod telling;
 mod told;
 mod words;
 
-pub use crate::commands::{push_command, push_trace, push_word};
-pub use crate::events::{push_event, push_words};
+pub use crate::contrast::missed_of;
+pub use crate::failures::{causes_told, failure_entry, loses_claimed, push_claim};
+pub use crate::hints::{hint_entry, push_head};
 pub use crate::layout::{push_brief, push_full};
+pub use crate::left::{left_entry, push_left_head};
+pub use crate::losses::{late_in, loss_entry, lost_in, push_all, sites_of};
 pub use crate::rows::{lines_of, push_line, push_wrapped};
-pub use crate::sites::{
-    frame_at, frames_up_to, push_call, push_site, push_sites, push_spot, site_frame, spot_of,
-};
+pub use crate::sites::{push_site, push_sites, push_spot, site_frame, spot_of};
 pub use crate::story::push_frame_source;
-pub use crate::telling::{Bytes, Made, NEAR, Screen, Telling, has_threads};
+pub use crate::telling::{Bytes, Made, Screen, Telling, has_threads};
 pub use crate::told::{Crashes, StoryRow, Told};
-pub use crate::words::{named_of, pen_of, push_comma, push_lines, push_more, push_text};
+pub use crate::words::{pen_of, push_comma, push_lines, push_more, push_text};

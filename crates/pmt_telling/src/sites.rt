@@ -71,8 +71,8 @@ fn parts_of<'a>(told: &Telling<'a>, site: Option<Origin>) -> (&'a str, &'a str) 
     }
 }
 
-/// Adds the frame with its function first, as `put tree.c:225`.
-pub fn push_call(pen: &mut Pen, frame: &str) {
+// Adds the frame with its function first, as `put tree.c:225`.
+pub(crate) fn push_call(pen: &mut Pen, frame: &str) {
     match frame.split_once(' ') {
         Some((spot, function)) if spot.contains(":") => {
             pen.put(function);
@@ -83,8 +83,8 @@ pub fn push_call(pen: &mut Pen, frame: &str) {
     }
 }
 
-/// The first so many frames of the label, the innermost first; all of it where it has fewer.
-pub fn frames_up_to(label: &str, depth: usize) -> &str {
+// The first so many frames of the label, the innermost first; all of it where it has fewer.
+pub(crate) fn frames_up_to(label: &str, depth: usize) -> &str {
     let mut end = 0usize;
     for (index, frame) in label.split(CALLED_BY).take(depth).enumerate() {
         if index > 0 {
@@ -95,7 +95,7 @@ pub fn frames_up_to(label: &str, depth: usize) -> &str {
     label.get(..end).unwrap_or(label)
 }
 
-/// The frame at this depth of the label, the innermost first from 0.
-pub fn frame_at(label: &str, depth: usize) -> Option<&str> {
+// The frame at this depth of the label, the innermost first from 0.
+pub(crate) fn frame_at(label: &str, depth: usize) -> Option<&str> {
     label.split(CALLED_BY).nth(depth)
 }

@@ -63,8 +63,8 @@ pub fn has_threads(trace: &Trace) -> bool {
     trace.events().iter().any(|event| event.thread != thread)
 }
 
-/// The most events that are searched for one that goes with another.
-pub const NEAR: u64 = 10_000;
+// The most events that are searched for one that goes with another.
+pub(crate) const NEAR: u64 = 10_000;
 
 impl<'a> Telling<'a> {
     /// The op of the event, if there is such an event.
@@ -147,8 +147,8 @@ impl<'a> Telling<'a> {
         self.labels.get(number).map(|label| label.as_str())
     }
 
-    /// The frame that calls the innermost one of the event's label.
-    pub fn caller(&self, number: u64) -> Option<&'a str> {
+    // The frame that calls the innermost one of the event's label.
+    pub(crate) fn caller(&self, number: u64) -> Option<&'a str> {
         frame_at(self.label(number)?, 1)
     }
 
@@ -163,8 +163,8 @@ impl<'a> Telling<'a> {
         self.explanation.waited.get(index).copied().unwrap_or(0)
     }
 
-    /// The next fence of the event's thread, if it stands near.
-    pub fn next_fence(&self, number: u64) -> Option<u64> {
+    // The next fence of the event's thread, if it stands near.
+    pub(crate) fn next_fence(&self, number: u64) -> Option<u64> {
         let thread = self.thread(number);
         let end = self.end().min(number.saturating_add(NEAR));
         (number.saturating_add(1)..end).find(|later| self.thread(*later) == thread

@@ -64,23 +64,23 @@ impl<'a> Told<'a> {
         }
     }
 
-    /// Adds the paragraph.
-    pub fn aside(&mut self, aside: Pen) {
+    // Adds the paragraph.
+    pub(crate) fn aside(&mut self, aside: Pen) {
         if self.asides.push(aside).is_err() {
             self.what.refuse();
         }
     }
 
-    /// Adds the event with these words to the story, if there is one.
-    pub fn row(&mut self, event: Option<u64>, words: &str) {
+    // Adds the event with these words to the story, if there is one.
+    pub(crate) fn row(&mut self, event: Option<u64>, words: &str) {
         if let Some(event) = event {
             let note = pen_of(self.what.alloc(), words);
             self.noted(event, note);
         }
     }
 
-    /// Adds the event with this note to the story.
-    pub fn noted(&mut self, event: u64, note: Pen) {
+    // Adds the event with this note to the story.
+    pub(crate) fn noted(&mut self, event: u64, note: Pen) {
         if self.story.push(StoryRow { event, note }).is_err() {
             self.what.refuse();
         }

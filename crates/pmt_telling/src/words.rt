@@ -98,8 +98,8 @@ pub fn push_more(pen: &mut Pen, named: usize, count: usize) {
     }
 }
 
-/// How many of so many are named.
-pub fn named_of(count: usize) -> usize {
+// How many of so many are named.
+pub(crate) fn named_of(count: usize) -> usize {
     if count > NAMED { NAMED - 1 } else { count }
 }
 

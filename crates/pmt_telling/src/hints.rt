@@ -1,16 +1,17 @@
 //! Entries of hints.
 
-use crate::failures::push_flush_between;
+use crate::failures::push_flush_when;
 use crate::partners::{flushed_store, mark_of, partner_of};
+use crate::sites::{push_call, push_site};
+use crate::{Crashes, Telling, Told};
 use pmt_hints::{Contrast, Hint, HintKind};
 use pmt_pen::Pen;
-use pmt_telling::{Crashes, Telling, Told, push_call, push_site};
 
 // The most stores of a story that come after the one that publishes.
 const AFTER: usize = 3;
 
-// What is told of the hint with this index.
-pub(crate) fn hint_entry<'a>(told: &Telling<'a>, index: u64) -> Told<'a> {
+/// What is told of the hint with this index.
+pub fn hint_entry<'a>(told: &Telling<'a>, index: u64) -> Told<'a> {
     let mut entry = Told::new(told.alloc);
     let Some(hint) = told.explanation.hints.get(index as usize).copied() else {
         return entry;
@@ -36,8 +37,8 @@ pub(crate) fn hint_entry<'a>(told: &Telling<'a>, index: u64) -> Told<'a> {
     entry
 }
 
-// Adds what the hint tells, where, and how often.
-pub(crate) fn push_head(pen: &mut Pen, told: &Telling<'_>, hint: &Hint) {
+/// Adds what the hint tells, where, and how often.
+pub fn push_head(pen: &mut Pen, told: &Telling<'_>, hint: &Hint) {
     let form = match hint.kind {
         HintKind::OpenAtStore => "no fence between the flush and the next store, at ",
         HintKind::StoredAfterFlush => "a store comes after the flush of its cache line, at ",
@@ -75,12 +76,7 @@ pub(crate) fn push_caller(pen: &mut Pen, told: &Telling<'_>, event: u64) {
 }
 
 // Tells of a flush that its thread has not fenced when it stores elsewhere: what a crash between keeps and loses.
-fn tell_open<'a>(
-    entry: &mut Told<'a>,
-    told: &Telling<'a>,
-    hint: &Hint,
-    contrast: Option<Contrast>,
-) {
+fn tell_open<'a>(entry: &mut Told<'a>, told: &Telling<'a>, hint: &Hint, counts: Option<Contrast>) {
     let flush = hint.first;
     entry.row(flushed_store(told, flush), "a crash can lose it");
     entry.row(Some(flush), "flushed, not yet fenced");
@@ -88,7 +84,7 @@ fn tell_open<'a>(
         return;
     };
     entry.row(Some(store), "a crash can keep it");
-    add_contrast(entry, told, store, contrast);
+    add_contrast(entry, told, store, counts);
     if let Some(call) = told.caller(store) {
         let mut aside = told.said("event # is stored by way of ", &[store]);
         push_call(&mut aside, call);
@@ -118,7 +114,7 @@ fn tell_late_store(entry: &mut Told<'_>, told: &Telling<'_>, hint: &Hint, fence:
     entry.row(Some(store), "too late for the flush");
     entry.row(fence, "does not save it");
     entry.fix.fill("flush line @", &[told.line_start(store)]);
-    push_flush_between(&mut entry.fix, told, store, None);
+    push_flush_when(&mut entry.fix, told, store, None);
 }
 
 // Tells of a flush of a run of lines that ends one line short.
@@ -130,7 +126,7 @@ fn tell_short(entry: &mut Told<'_>, told: &Telling<'_>, hint: &Hint, fence: Opti
     let next = told.line(flush).unwrap_or(0).saturating_add(1);
     let address = told.line_address(next);
     entry.fix.fill("also flush the next line, @,", &[address]);
-    push_flush_between(&mut entry.fix, told, flush, None);
+    push_flush_when(&mut entry.fix, told, flush, None);
 }
 
 const UNCLAIMED: &str =

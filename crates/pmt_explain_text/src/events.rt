@@ -1,12 +1,12 @@
 //! Events in full.
 
-use crate::telling::Telling;
 use pmt_model::Event;
 use pmt_pen::Pen;
+use pmt_telling::Telling;
 use pmt_text::write_event;
 
-/// Adds the event as a person finds it again: its number, line, thread, label and words.
-pub fn push_event(pen: &mut Pen, told: &Telling<'_>, number: u64) {
+// Adds the event as a person finds it again: its number, line, thread, label and words.
+pub(crate) fn push_event(pen: &mut Pen, told: &Telling<'_>, number: u64) {
     let Some(event) = told.trace.get(number) else {
         pen.fill("event #", &[number]);
         return;
@@ -21,8 +21,8 @@ pub fn push_event(pen: &mut Pen, told: &Telling<'_>, number: u64) {
     push_words(pen, event);
 }
 
-/// Adds the event's line in the text of its trace, which is ASCII, without its LF.
-pub fn push_words(pen: &mut Pen, event: Event) {
+// Adds the event's line in the text of its trace, which is ASCII, without its LF.
+pub(crate) fn push_words(pen: &mut Pen, event: Event) {
     let Ok(line) = write_event(pen.alloc(), event) else {
         pen.refuse();
         return;

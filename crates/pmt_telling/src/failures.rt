@@ -2,18 +2,18 @@
 
 use crate::contrast::{add_failing_call, push_share};
 use crate::partners::{IN_VAIN, Saving, is_stray, saving_of};
+use crate::sites::{push_site, push_spot, site_frame};
+use crate::telling::{Made, NEAR, Telling};
+use crate::told::Told;
+use crate::words::{named_of, pen_of, push_comma, push_more};
 use pmt_causes::{AssertionKind, CauseKind, FailureKey, Group, Origin};
 use pmt_failures::ShownFailure;
 use pmt_pen::Pen;
 use pmt_reasons::{Cause, Mend};
-use pmt_telling::{
-    Made, NEAR, Telling, Told, named_of, pen_of, push_comma, push_more, push_site, push_spot,
-    site_frame,
-};
 
-// Of how many causes the entry of the cause with this index tells: of itself and those behind it that lose a store of the same site for the same
-// reason.
-pub(crate) fn causes_told(told: &Telling<'_>, index: u64) -> u64 {
+/// Of how many causes the entry of the cause with this index tells: of itself and those behind it that lose a store of the same site for the same
+/// reason.
+pub fn causes_told(told: &Telling<'_>, index: u64) -> u64 {
     let index = index as usize;
     let first = told_with(told, index);
     let next = index.saturating_add(1)..told.explanation.failures.len();
@@ -30,9 +30,12 @@ fn told_with(told: &Telling<'_>, index: usize) -> Option<(Origin, CauseKind, boo
     Some((told.origin(lost), group.key.cause, is_crossing))
 }
 
-// What is told of the causes of failed assertions from the one with this index on that are told with it; nothing where it is not known in full.
-// With its whole story it takes a look at all assertions, and at the events after the lost store.
-pub(crate) fn failure_entry<'a>(told: &Telling<'a>, index: u64, has_story: bool) -> Made<Told<'a>> {
+/// What is told of the causes of failed assertions from the one with this index on that are told with it; nothing where it is not known in full.
+/// With its whole story it takes a look at all assertions, and at the events after the lost store.
+///
+/// # Errors
+/// Where memory was refused.
+pub fn failure_entry<'a>(told: &Telling<'a>, index: u64, has_story: bool) -> Made<Told<'a>> {
     let mut entry = Told::new(told.alloc);
     let Some(shown) = told.explanation.failures.get(index as usize).copied() else {
         return Ok(entry);
@@ -92,8 +95,8 @@ fn push_claims(pen: &mut Pen, told: &Telling<'_>, index: u64) {
     push_more(pen, named, count);
 }
 
-// Adds the assertions of the cause, where they are made, and how many they are.
-pub(crate) fn push_claim(pen: &mut Pen, told: &Telling<'_>, cause: &Group<FailureKey>) {
+/// Adds the assertions of the cause, where they are made, and how many they are.
+pub fn push_claim(pen: &mut Pen, told: &Telling<'_>, cause: &Group<FailureKey>) {
     pen.put(match cause.key.kind {
         AssertionKind::Persist => "isPersist",
         AssertionKind::Ordered => "isOrderedBefore",
@@ -127,8 +130,8 @@ fn add_missed(entry: &mut Told<'_>, told: &Telling<'_>, store: u64) {
     }
 }
 
-// Whether a store of this site is one that an assertion told in full loses.
-pub(crate) fn loses_claimed(told: &Telling<'_>, place: Origin) -> bool {
+/// Whether a store of this site is one that an assertion told in full loses.
+pub fn loses_claimed(told: &Telling<'_>, place: Origin) -> bool {
     let mut failures = told.explanation.failures.iter();
     failures.any(|shown| told.origin(shown.failure.lost.store) == place)
 }
@@ -203,7 +206,7 @@ fn tell_fix(entry: &mut Told<'_>, told: &Telling<'_>, mend: Mend) {
             before,
         } => {
             fix.fill("flush line @", &[told.line_address(line)]);
-            push_flush_between(fix, told, after, before);
+            push_flush_when(fix, told, after, before);
             Some(after)
         }
         Mend::StoreFirst {
@@ -230,12 +233,7 @@ fn push_between(pen: &mut Pen, told: &Telling<'_>, after: u64, before: Option<u6
 }
 
 // Adds when to flush, and to fence if the thread does not do so in time.
-pub(crate) fn push_flush_between(
-    pen: &mut Pen,
-    told: &Telling<'_>,
-    after: u64,
-    before: Option<u64>,
-) {
+pub(crate) fn push_flush_when(pen: &mut Pen, told: &Telling<'_>, after: u64, before: Option<u64>) {
     let fence = told.next_fence(after);
     match fence.filter(|fence| *fence < before.unwrap_or(u64::MAX)) {
         Some(fence) => {

@@ -1,8 +1,9 @@
 //! The events that others go with: those of hints, and those that make a store safe.
 
+use crate::sites::frame_at;
+use crate::telling::{Bytes, Made, NEAR, Telling};
 use pmt_hints::{Hint, HintKind};
 use pmt_slices::{StorePart, store_story_of};
-use pmt_telling::{Bytes, Made, NEAR, Telling, frame_at};
 
 // The most events that are looked at for the store that publishes.
 const FEW: u64 = 64;

@@ -1,9 +1,10 @@
 //! By way of which caller a site goes wrong, where by others it does not.
 
+use crate::sites::{frame_at, frames_up_to, push_call, push_spot};
+use crate::{Made, Telling, Told};
 use pmt_entries::Site;
 use pmt_fates::PlaceRow;
 use pmt_pen::Pen;
-use pmt_telling::{Made, Telling, Told, frame_at, frames_up_to, push_call, push_spot};
 
 // The most callers of a path that are compared.
 const DEEPEST: usize = 64;
@@ -118,8 +119,8 @@ fn words_of(row: &PlaceRow) -> &'static str {
     }
 }
 
-// How many stores the row loses or delays.
-pub(crate) fn missed_of(row: &PlaceRow) -> u64 {
+/// How many stores the row loses or delays.
+pub fn missed_of(row: &PlaceRow) -> u64 {
     row.lost.saturating_add(row.late)
 }
 

@@ -2,11 +2,13 @@
 
 use crate::losses::{late_in, sign_of};
 use crate::partners::{IN_VAIN, is_stray, partner_of};
+use crate::sites::{push_call, push_site};
+use crate::telling::NEAR;
+use crate::{Crashes, Made, Telling, Told, push_lines};
 use pmt_entries::Site;
 use pmt_hints::HintKind;
 use pmt_pen::Pen;
 use pmt_slices::{StorePart, StoreStory, store_story_of};
-use pmt_telling::{Crashes, Made, NEAR, Telling, Told, push_call, push_lines, push_site};
 
 // Why a store is lost or late.
 #[derive(Clone, Copy, PartialEq, Eq)]

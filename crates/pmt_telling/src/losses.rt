@@ -2,23 +2,24 @@
 
 use crate::contrast::add_contrast;
 use crate::loss_story::add_story;
+use crate::{Made, Telling, Told, push_site, push_sites};
 use pmt_causes::Origin;
 use pmt_entries::Site;
 use pmt_hints::Hint;
 use pmt_pen::Pen;
-use pmt_telling::{Made, Telling, Told, push_site, push_sites, push_text};
 
-// The loss with this index, with its story or without.
-pub(crate) fn loss_entry<'a>(told: &Telling<'a>, index: u64, has_story: bool) -> Made<Told<'a>> {
+/// The loss with this index, with its story or without.
+///
+/// # Errors
+/// Where memory was refused.
+pub fn loss_entry<'a>(told: &Telling<'a>, index: u64, has_story: bool) -> Made<Told<'a>> {
     let mut entry = Told::new(told.alloc);
     let sites = sites_of(told, index)?;
     let Some(main) = main_site(sites.as_slice()) else {
         return Ok(entry);
     };
-    let mut gist = Pen::new(told.alloc);
-    push_missed(&mut gist, told, sites.as_slice());
-    push_text(&mut entry.what, &gist);
-    entry.gist = gist;
+    push_missed(&mut entry.gist, told, sites.as_slice());
+    push_missed(&mut entry.what, told, sites.as_slice());
     entry.what.put(", at ");
     push_all(&mut entry.what, told, sites.as_slice())?;
     push_site(&mut entry.site, told, main.row.place);
@@ -34,8 +35,11 @@ pub(crate) fn sign_of(told: &Telling<'_>, site: &Site) -> Option<Hint> {
     told.explanation.hints.get(site.sign? as usize).copied()
 }
 
-// The sites of the loss with this index.
-pub(crate) fn sites_of(told: &Telling<'_>, index: u64) -> Made<Vec<Site>> {
+/// The sites of the loss with this index.
+///
+/// # Errors
+/// Where memory was refused.
+pub fn sites_of(told: &Telling<'_>, index: u64) -> Made<Vec<Site>> {
     let entries = &told.explanation.entries;
     let Some(loss) = entries.losses.get(index as usize) else {
         return Ok(Vec::new(told.alloc));
@@ -52,14 +56,14 @@ fn main_site(sites: &[Site]) -> Option<Site> {
     signed.or(other).or(sites.first()).copied()
 }
 
-// How many stores the sites lose.
-pub(crate) fn lost_in(sites: &[Site]) -> u64 {
+/// How many stores the sites lose.
+pub fn lost_in(sites: &[Site]) -> u64 {
     let sites = sites.iter();
     sites.fold(0u64, |sum, site| sum.saturating_add(site.row.lost))
 }
 
-// How many they delay.
-pub(crate) fn late_in(sites: &[Site]) -> u64 {
+/// How many stores the sites delay.
+pub fn late_in(sites: &[Site]) -> u64 {
     let sites = sites.iter();
     sites.fold(0u64, |sum, site| sum.saturating_add(site.row.late))
 }
@@ -76,8 +80,11 @@ fn push_missed(pen: &mut Pen, told: &Telling<'_>, sites: &[Site]) {
     told.say(pen, form, &numbers);
 }
 
-// Adds the names of the sites.
-pub(crate) fn push_all(pen: &mut Pen, told: &Telling<'_>, sites: &[Site]) -> Made<()> {
+/// Adds the names of the sites.
+///
+/// # Errors
+/// Where memory was refused.
+pub fn push_all(pen: &mut Pen, told: &Telling<'_>, sites: &[Site]) -> Made<()> {
     let places: Vec<Origin> = sites.iter().map(|site| site.row.place).collect(told.alloc)?;
     push_sites(pen, told, places.as_slice());
     Ok(())

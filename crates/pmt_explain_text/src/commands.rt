@@ -1,10 +1,10 @@
 //! Commands that a text names.
 
-use crate::telling::Telling;
 use pmt_pen::Pen;
+use pmt_telling::Telling;
 
-/// Adds the command with its options, of which one has this number, the labels and the trace.
-pub fn push_command(pen: &mut Pen, told: &Telling<'_>, command: &str, number: u64) {
+// Adds the command with its options, of which one has this number, the labels and the trace.
+pub(crate) fn push_command(pen: &mut Pen, told: &Telling<'_>, command: &str, number: u64) {
     pen.fill(command, &[number]);
     if let Some(labels) = told.screen.labels {
         pen.put(" --labels ");
@@ -13,15 +13,15 @@ pub fn push_command(pen: &mut Pen, told: &Telling<'_>, command: &str, number: u6
     push_trace(pen, told);
 }
 
-/// Adds the file of the trace as the last word of a command; of standard input a word that stands for it.
-pub fn push_trace(pen: &mut Pen, told: &Telling<'_>) {
+// Adds the file of the trace as the last word of a command; of standard input a word that stands for it.
+pub(crate) fn push_trace(pen: &mut Pen, told: &Telling<'_>) {
     let trace = told.screen.trace.unwrap_or("TRACE");
     pen.put(if trace.starts_with("-") { " -- " } else { " " });
     push_word(pen, trace);
 }
 
-/// Adds the word as a shell reads it.
-pub fn push_word(pen: &mut Pen, word: &str) {
+// Adds the word as a shell reads it.
+pub(crate) fn push_word(pen: &mut Pen, word: &str) {
     if word.as_bytes().iter().all(|byte| is_plain(*byte)) {
         pen.put(word);
         return;

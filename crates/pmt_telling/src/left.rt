@@ -1,14 +1,18 @@
 //! Entries of sites and paths each of whose stores is saved one fence late.
 
-use crate::failures::push_flush_between;
+use crate::failures::push_flush_when;
 use crate::hints::push_caller;
 use crate::partners::saving_of;
+use crate::sites::{push_site, push_spot};
+use crate::{Crashes, Made, Telling, Told, pen_of};
 use pmt_fates::PlaceRow;
 use pmt_pen::Pen;
-use pmt_telling::{Crashes, Made, Telling, Told, pen_of, push_site, push_spot};
 
-// What is told of the site, or of the path: what a crash keeps without its first store, and what to do.
-pub(crate) fn left_entry<'a>(
+/// What is told of the site, or of the path: what a crash keeps without its first store, and what to do.
+///
+/// # Errors
+/// Where memory was refused.
+pub fn left_entry<'a>(
     told: &Telling<'a>,
     row: Option<&PlaceRow>,
     is_path: bool,
@@ -33,8 +37,8 @@ pub(crate) fn left_entry<'a>(
     Ok(entry)
 }
 
-// Adds how many stores are saved so, and where.
-pub(crate) fn push_left_head(pen: &mut Pen, told: &Telling<'_>, row: &PlaceRow, is_path: bool) {
+/// Adds how many stores of the site, or of the path, are saved one fence late, and where.
+pub fn push_left_head(pen: &mut Pen, told: &Telling<'_>, row: &PlaceRow, is_path: bool) {
     let form = "% store~ saved one fence after what comes next, at ";
     told.say(pen, form, &[row.left]);
     push_spot(pen, told, told.origin(row.first));
@@ -60,7 +64,7 @@ fn tell_store(
     fix.fill("flush line @", &[told.line_start(store)]);
     match before.filter(|before| store < *before) {
         Some(before) => told.say(fix, " and fence before $", &[before]),
-        None => push_flush_between(fix, told, store, None),
+        None => push_flush_when(fix, told, store, None),
     }
     if let Some(before) = before {
         let form = ", or see that recovery does not follow event # to what event # stores";
