@@ -49,22 +49,54 @@ class Screen:
             self.told[line["kind"]].append(line)
         self.summary = self.told["summary"][0]
         most = words[words.index("--limit") + 1] if "--limit" in words else FEW
-        full = self.told["failure"] if most == "all" else self.told["failure"][: int(most)]
-        claimed = {site_of(failure["lost"]["store"]) for failure in full}
-        entries = [entry for entry in self.told["entry"] if not stands_in(claimed, entry)]
+        self.full = self.told["failure"] if most == "all" else self.told["failure"][: int(most)]
+        trace = (options["cwd"] / file if "cwd" in options else file).read_text()
+        head, *events = [line.split(" ") for line in trace.splitlines()]
+        self.size, self.events = int([*head, "64"][2]), events
+        self.rows = {name_of(row): row for row in self.told["place"]}
+        entries = [entry for entry in self.told["entry"] if not self.stands_in(entry)]
         words = shlex.split(next_of(self) or "")
         self.volatile = {word for before, word in zip(words, words[1:]) if before == "--ignore-label"}
         apart = [entry for entry in entries if self.is_volatile(entry)]
         self.weighty = [entry for entry in entries if entry["word"] != "meant" and entry not in apart]
         # fields that may be volatile are one question
-        self.meant = [entry for entry in entries if entry["word"] == "meant"] + apart[:1]
-        trace = (options["cwd"] / file if "cwd" in options else file).read_text()
-        self.events = [line.split(" ") for line in trace.splitlines()[1:]]
+        self.meant = self.questions([entry for entry in entries if entry["word"] == "meant"]) + apart[:1]
 
     def is_volatile(self, entry):
         """Whether its sites store to fields that are told apart, as the next command names them."""
         names = {site["label"] for site in entry["sites"]}
         return entry["subject"] == "stores" and entry["word"] != "meant" and names <= self.volatile and not entry["more_sites"]
+
+    def questions(self, meant):
+        """Those of these entries that are asked about by themselves: scratch is with the first that has a site in the same cache line."""
+        line = lambda name: int(self.rows[name]["first_never_persisted"]["address"], 16) // self.size
+        scratch = {name_of(site) for entry in meant if entry["scratch"] for site in entry["sites"]}
+        found, asked = [], set()
+        for entry in meant:
+            names = {name_of(site) for site in entry["sites"]}
+            if not (entry["scratch"] and names <= asked):
+                found.append(entry)
+            if entry["scratch"]:
+                asked |= {name for name in scratch if line(name) in set(map(line, names))}
+        return found
+
+    def stands_in(self, entry):
+        """Whether a loss is told with failures, which lose stores of these sites: nothing else tells why but an early flush, which they tell."""
+        claimed = {site_of(failure["lost"]["store"]) for failure in self.full}
+        unflushed = [failure["lost"]["store"] for failure in self.full if failure["cause"]["cause"] == "unflushed"]
+        early = {site_of(store) for store in unflushed if self.is_flushed_before(store["event"])}
+        signed = {name_of(hint) for hint in self.told["hint"] if hint["hint"] == "stored_after_flush"}
+        is_bare = entry["subject"] == "stores" and entry["sign"] in (None, "stored_after_flush") and not entry["contrast"]
+        return is_bare and all(name in (early if name in signed else claimed) for name in map(name_of, entry["sites"]))
+
+    def is_flushed_before(self, store):
+        """Whether its thread, between its fences about the store, flushes the store's cache line, and for the last time before the store."""
+        thread, line = self.events[store - 1][1], int(self.events[store - 1][2], 16) // self.size
+        own = [(number, event) for number, event in enumerate(self.events, 1) if event[1] == thread]
+        fences = [number for number, event in own if event[0] in ("sfence", "mfence")]
+        low, high = max((at for at in fences if at < store), default=0), min((at for at in fences if at > store), default=len(self.events) + 1)
+        flushes = [number for number, event in own if event[0].startswith("cl") and int(event[2], 16) // self.size == line]
+        return low < max((number for number in flushes if number < high), default=0) < store
 
     @property
     def start(self):
@@ -96,18 +128,17 @@ class Screen:
             failure = failures.get(entry["first"]["event"]) if entry["subject"] == "failure" else None
             lost = failure and failure["lost"]["store"]
             key = lost and (site_of(lost), entry["why"], lost["thread"] != failure["event"]["thread"])
+            kept = entry["subject"] == "left" and not entry["path"] and self.rows[name_of(entry["sites"][0])]["saved_before"]
+            if kept and entry["sites"][0]["label"]:
+                # one function, and what a crash keeps without its stores
+                function = next((word for word in entry["sites"][0]["label"].split(" ") if ":" not in word), None)
+                key = function and (function, site_of(kept["store"]))
             if key and keys and keys[-1] == key:
                 found[-1].append(entry)
             else:
                 found.append([entry])
             keys.append(key)
         return found
-
-
-def stands_in(claimed, entry):
-    """Whether a loss is told with failures, which lose stores of these sites: nothing else tells why."""
-    is_bare = entry["subject"] == "stores" and not entry["sign"] and not entry["contrast"]
-    return is_bare and claimed.issuperset(map(name_of, entry["sites"]))
 
 
 def name_of(site):

@@ -1,6 +1,6 @@
 //! Rows of stores that are never persisted, late or overwritten, and of flushes and fences that do nothing.
 
-use crate::only::{push_heading, push_left, push_row, row_of};
+use crate::only::{push_table, row_of};
 use pmt_causes::{DroppedKey, Group, LateSpot, LostKey, Origin, ReasonKind, Spot};
 use pmt_explain::OverwrittenGroup;
 use pmt_explanation::{first, first_of};
@@ -10,16 +10,14 @@ use pmt_telling::{Made, Telling, push_site};
 use pmt_text::word_of;
 
 // Adds the stores that are never persisted, a row for each cause and site.
-pub(crate) fn push_lost(pen: &mut Pen, told: &Telling<'_>) {
+pub(crate) fn push_lost(pen: &mut Pen, told: &Telling<'_>) -> Made<()> {
     let lost = told.explanation.lost.iter();
     let count = lost.fold(0u64, |sum, group| sum.saturating_add(group.count));
     let causes = told.explanation.lost_causes.as_slice();
     let what = "Stores never saved: %, by cause and site:";
-    push_heading(pen, told, what, count, causes.len());
-    for cause in first(causes, told.explanation.limit) {
-        push_row(pen, &lost_row(told, cause));
-    }
-    push_left(pen, told, causes.len());
+    let rows = first(causes, told.explanation.limit).iter();
+    let rows: Vec<Pen> = rows.map(|one| lost_row(told, one)).collect(told.alloc)?;
+    push_table(pen, told, what, count, causes.len(), rows)
 }
 
 // The row of the stores that are lost for one cause: in how many cache lines, the first one, and why.
@@ -42,16 +40,14 @@ fn lost_row(told: &Telling<'_>, cause: &Group<LostKey>) -> Pen {
 }
 
 // Adds the late stores, a row for each site.
-pub(crate) fn push_late(pen: &mut Pen, told: &Telling<'_>) {
+pub(crate) fn push_late(pen: &mut Pen, told: &Telling<'_>) -> Made<()> {
     let late = told.explanation.late.as_slice();
     let counts = late.iter().map(|group| group.members.len() as u64);
     let count = counts.fold(0u64, |sum, count| sum.saturating_add(count));
     let what = "Stores saved late or never: %, by site:";
-    push_heading(pen, told, what, count, late.len());
-    for group in first(late, told.explanation.limit) {
-        push_row(pen, &late_row(told, group));
-    }
-    push_left(pen, told, late.len());
+    let rows = first(late, told.explanation.limit).iter();
+    let rows: Vec<Pen> = rows.map(|one| late_row(told, one)).collect(told.alloc)?;
+    push_table(pen, told, what, count, late.len(), rows)
 }
 
 // The row of late stores, with how many fences left the first one unsafe.
@@ -78,12 +74,10 @@ pub(crate) fn push_overwritten(pen: &mut Pen, told: &Telling<'_>) -> Made<()> {
     let pairs = groups.iter();
     let count = pairs.fold(0u64, |sum, group| sum.saturating_add(group.count));
     let what = "Stores overwritten before any flush of their cache line: %, by cache line:";
-    push_heading(pen, told, what, count, groups.len());
-    for group in first(groups.as_slice(), told.explanation.limit) {
-        push_row(pen, &overwritten_row(told, group));
-    }
-    push_left(pen, told, groups.len());
-    Ok(())
+    let rows = first(groups.as_slice(), told.explanation.limit).iter();
+    let rows = rows.map(|one| overwritten_row(told, one));
+    let rows: Vec<Pen> = rows.collect(told.alloc)?;
+    push_table(pen, told, what, count, groups.len(), rows)
 }
 
 // The row of a cache line.
@@ -97,15 +91,13 @@ fn overwritten_row(told: &Telling<'_>, group: &OverwrittenGroup) -> Pen {
 }
 
 // Adds the flushes and fences that do nothing, a row for each place and reason.
-pub(crate) fn push_dropped(pen: &mut Pen, told: &Telling<'_>) {
+pub(crate) fn push_dropped(pen: &mut Pen, told: &Telling<'_>) -> Made<()> {
     let count = told.explanation.asked_dropped.len() as u64;
     let groups = told.explanation.dropped_groups.as_slice();
     let what = "Flushes and fences that do nothing: %, by place and reason:";
-    push_heading(pen, told, what, count, groups.len());
-    for group in first(groups, told.explanation.limit) {
-        push_row(pen, &dropped_row(told, group));
-    }
-    push_left(pen, told, groups.len());
+    let rows = first(groups, told.explanation.limit).iter();
+    let rows: Vec<Pen> = rows.map(|one| dropped_row(told, one)).collect(told.alloc)?;
+    push_table(pen, told, what, count, groups.len(), rows)
 }
 
 // The row of the group.

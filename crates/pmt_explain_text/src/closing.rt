@@ -1,41 +1,23 @@
 //! What stands below the entries of a screen.
 
 use crate::commands::push_command;
-use crate::covered::push_not_covered;
+use crate::entries::Shown;
 use crate::meant::{push_ignored, push_replay};
-use crate::small::push_small;
 use pmt_asked::{ByteRange, IgnoredPlace, is_at_place};
 use pmt_entries::Verdict;
-use pmt_explanation::Summary;
+use pmt_explanation::{Summary, summary_of};
 use pmt_model::Finding;
 use pmt_pen::Pen;
-use pmt_telling::{
-    Bytes, Made, Telling, Told, lines_of, pen_of, push_line, push_text, push_wrapped,
-};
+use pmt_telling::{Bytes, Crashes, Made, Telling, pen_of, push_line, push_wrapped};
 
-// Adds what assertions do not cover and small things, as far as these have room, and what to do next, and how large the trace is; the entry is
-// the first one.
-pub(crate) fn push_closing(
-    pen: &mut Pen,
-    told: &Telling<'_>,
-    counts: &Summary,
-    first: Option<&Told<'_>>,
-    room: usize,
-) -> Made<()> {
-    let mut covered = Pen::new(told.alloc);
-    push_not_covered(&mut covered, told, counts)?;
-    let mut small = Pen::new(told.alloc);
-    let verdict = told.explanation.entries.verdict;
-    if !matches!(verdict, Verdict::Fail | Verdict::Lost | Verdict::Suspect) {
-        push_small(&mut small, told, counts)?;
-    }
-    for part in [&covered, &small] {
-        if lines_of(pen).saturating_add(lines_of(part)) <= room {
-            push_text(pen, part);
-        }
-    }
+// The crashes of so many entries are named.
+const FEW: usize = 3;
+
+// Adds what to do next, and how large the trace is; these are the entries.
+pub(crate) fn push_closing(pen: &mut Pen, told: &Telling<'_>, entries: &Shown<'_>) -> Made<()> {
+    let counts = &summary_of(told.explanation);
     if counts.stores > 0 {
-        push_next(pen, told, first);
+        push_next(pen, told, entries)?;
     }
     push_recorded(pen, told, counts);
     push_idle(pen, told);
@@ -45,7 +27,7 @@ pub(crate) fn push_closing(
 }
 
 // Adds the command that tells most next, whole in its line.
-fn push_next(pen: &mut Pen, told: &Telling<'_>, first: Option<&Told<'_>>) {
+fn push_next(pen: &mut Pen, told: &Telling<'_>, entries: &Shown<'_>) -> Made<()> {
     if let Some(failing) = told.explanation.failing.first() {
         pen.put("next: ");
         push_command(pen, told, "pmtrim explain --failure #", *failing);
@@ -53,19 +35,25 @@ fn push_next(pen: &mut Pen, told: &Telling<'_>, first: Option<&Told<'_>>) {
         pen.put("next: pmtrim explain");
         let sites = told.explanation.entries.sites.iter();
         for site in sites.filter(|site| told.volatile.contains(&site.row.place)) {
-            push_ignored(pen, told, site);
+            push_ignored(pen, told, site, false);
         }
         push_command(pen, told, "", 0);
     } else {
-        let crashes = first.and_then(|entry| entry.crashes);
-        pen.put(match crashes {
-            Some(_) =>
-                "next: run your recovery on each of these crashes (recorded with --base):\n  ",
-            None => "next: run your recovery on each crash (recorded with --base):\n  ",
+        let first = entries.entries.first().and_then(|entry| entry.crashes);
+        let few = entries.entries.iter().take(FEW).filter(|_| first.is_some());
+        let crashes: Vec<Crashes> = few.filter_map(|entry| entry.crashes).collect(told.alloc)?;
+        let of_these = first.is_some();
+        pen.put("next: run your recovery on each ");
+        pen.put(if of_these {
+            "of these crashes"
+        } else {
+            "crash"
         });
-        push_replay(pen, told, crashes);
+        pen.put(" (recorded with --base):\n  ");
+        push_replay(pen, told, crashes.as_slice());
     }
     pen.put("\n");
+    Ok(())
 }
 
 // Adds what the trace may lack of its run: flushes, labels, and claims of several threads.

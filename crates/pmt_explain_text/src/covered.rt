@@ -47,10 +47,8 @@ fn push_wide(pen: &mut Pen, told: &Telling<'_>) {
 // Whether the event is an order whose second range has bytes of several cache lines.
 fn is_wide(told: &Telling<'_>, number: u64) -> bool {
     let size = told.trace.format().line_size();
-    match told.second_range(number) {
-        Some(range) => range.start / size != range.end.saturating_sub(1) / size,
-        None => false,
-    }
+    let range = told.second_range(number);
+    range.is_some_and(|range| range.start / size != range.end.saturating_sub(1) / size)
 }
 
 // Adds the sites that store no byte which an assertion names.

@@ -41,16 +41,18 @@ fn push_scratch(pen: &mut Pen, told: &Telling<'_>, sites: &[Site]) -> Made<()> {
     push_lines(pen, told, lines.as_slice());
     told.say(pen, AGAIN, &[lost_in(sites).saturating_add(late_in(sites))]);
     pen.put(if lost_in(sites) > 0 { " If not:" } else { "" });
-    for site in sites.iter().filter(|site| site.row.lost > 0).take(FEW) {
-        push_ignored(pen, told, site);
+    let by_line = sites.len() > FEW && lines.len() == 1 && told.volatile.is_empty();
+    let most = if by_line { 1 } else { FEW };
+    for site in sites.iter().filter(|site| site.row.lost > 0).take(most) {
+        push_ignored(pen, told, site, by_line);
     }
     Ok(())
 }
 
-// Adds the option that leaves out the site: by its name, or of a thread by the cache line.
-pub(crate) fn push_ignored(pen: &mut Pen, told: &Telling<'_>, site: &Site) {
+// Adds the option that leaves out the site: by its name, or by the cache line, as of a thread.
+pub(crate) fn push_ignored(pen: &mut Pen, told: &Telling<'_>, site: &Site, by_line: bool) {
     match site_frame(told, site.row.place) {
-        Some(frame) if !frame.starts_with("-") => {
+        Some(frame) if !by_line && !frame.starts_with("-") => {
             pen.put(" --ignore-label ");
             push_word(pen, frame);
         }
@@ -67,14 +69,15 @@ fn push_claimed(pen: &mut Pen, told: &Telling<'_>, first: &Site, sites: &[Site])
     pen.put(" May a crash lose them until then? If not, this is a bug: ");
     let from = first.first;
     let to = first.fence.min(told.end().saturating_sub(1));
-    push_replay(pen, told, Some(Crashes { from, to }));
+    push_replay(pen, told, &[Crashes { from, to }]);
 }
 
 // Adds the command that runs recovery on crashes, on these if some are named.
-pub(crate) fn push_replay(pen: &mut Pen, told: &Telling<'_>, crashes: Option<Crashes>) {
+pub(crate) fn push_replay(pen: &mut Pen, told: &Telling<'_>, crashes: &[Crashes]) {
     pen.put("pmtrim-replay");
-    if let Some(Crashes { from, to }) = crashes {
-        pen.fill(" --at #-#", &[from, to]);
+    for (index, Crashes { from, to }) in crashes.iter().enumerate() {
+        pen.put(if index == 0 { " --at " } else { "," });
+        pen.fill("#-#", &[*from, *to]);
     }
     push_trace(pen, told);
     pen.put(" -- YOUR_CHECKER {}");

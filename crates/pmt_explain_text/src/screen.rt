@@ -1,9 +1,11 @@
 //! The text for people: what stands where, and how much of it has room.
 
 use crate::closing::push_closing;
+use crate::covered::push_not_covered;
 use crate::entries::{Shown, shown_entries};
 use crate::in_full::push_failure_in_full;
 use crate::only::push_rows;
+use crate::small::push_small;
 use crate::verdict::push_verdict;
 use crate::volatile::volatile_sites;
 use pmt_asked::Labels;
@@ -37,7 +39,7 @@ pub fn text(
     let told = telling_of(alloc, explanation, labels, screen)?;
     let mut pen = pen_of(alloc, screen.lacking);
     if screen.choice.failure().is_some() {
-        push_full(&mut pen, &told, "", &failure_entry(&told, 0, true)?)?;
+        push_full(&mut pen, &told, "", &failure_entry(&told, 0, 1, true)?)?;
         push_failure_in_full(&mut pen, &told)?;
     } else {
         push_screen(&mut pen, &told)?;
@@ -71,7 +73,7 @@ fn telling_of<'a>(
 fn push_screen(pen: &mut Pen, told: &Telling<'_>) -> Made<()> {
     let counts = summary_of(told.explanation);
     let entries = shown_entries(told, false)?;
-    push_verdict(pen, told, &counts, entries.first());
+    push_verdict(pen, told, entries.entries.first());
     if !told.screen.choice.tells_all() {
         pen.put("told below: what is asked for\n");
         return push_rows(pen, told);
@@ -80,21 +82,29 @@ fn push_screen(pen: &mut Pen, told: &Telling<'_>) -> Made<()> {
     let rows = told.screen.rows.unwrap_or(usize::MAX);
     let left = rows.saturating_sub(lines_of(pen)).saturating_sub(1);
     let mut first = Pen::new(told.alloc);
-    if let Some(entry) = entries.first() {
+    if let Some(entry) = entries.entries.first() {
         push_full(&mut first, told, "", entry)?;
     }
     let mut closing = Pen::new(told.alloc);
     closing.share(&first);
     let room = left.saturating_sub(lines_of(&first)).saturating_sub(NEEDED);
-    push_closing(&mut closing, told, &counts, entries.first(), room)?;
+    let mut covered = Pen::new(told.alloc);
+    push_not_covered(&mut covered, told, &counts)?;
+    if lines_of(&covered) <= room {
+        push_text(&mut closing, &covered);
+    }
+    push_closing(&mut closing, told, &entries)?;
     let mut body = Body {
         pen: Pen::new(told.alloc),
         left: left.saturating_sub(lines_of(&closing)),
     };
-    let kept = if meant.total > 0 { KEPT } else { 0 };
-    body.add_entries(told, &entries, kept)?;
-    body.pen.put("\n");
+    body.add_entries(told, &entries, meant.total)?;
     body.add_meant(told, &meant);
+    let mut small = Pen::new(told.alloc);
+    push_small(&mut small, told, &counts)?;
+    if body.has_room(&small, 0) {
+        body.add(&small);
+    }
     body.add(&closing);
     push_text(pen, &body.pen);
     Ok(())
@@ -128,22 +138,25 @@ impl Body {
         }
     }
 
-    // Adds the first entry in full, and the next ones in full or in a line as long as there is room, with so many lines kept for others.
-    fn add_entries(&mut self, told: &Telling<'_>, entries: &Shown<'_>, kept: usize) -> Made<()> {
+    // Adds the first entry in full, and the next ones in full or in a line as long as there is room, with lines kept for a question if there are some.
+    fn add_entries(&mut self, told: &Telling<'_>, entries: &Shown<'_>, meant: usize) -> Made<()> {
+        let kept = if meant > 0 { KEPT } else { 0 };
         let mut done = 0usize;
         for entry in entries.entries.iter() {
             let mut rank = Pen::new(told.alloc);
             if entries.total > 1 {
                 rank.fill("#. ", &[done.saturating_add(1) as u64]);
             }
-            let mut full = pen_of(told.alloc, "\n");
-            full.share(&rank);
+            let mut full = Pen::new(told.alloc);
             push_full(&mut full, told, rank.as_str(), entry)?;
             let mut brief = Pen::new(told.alloc);
-            brief.share(&rank);
+            self.pen.share(&rank);
             push_brief(&mut brief, rank.as_str(), entry);
-            let others = entries.total.saturating_sub(done).min(6);
-            if done == 0 || self.has_room(&full, others.saturating_add(kept)) {
+            let later = entries.total.saturating_sub(done).saturating_sub(1);
+            let others = later.min(6).saturating_add(kept);
+            let is_airy = done == 0 || self.has_room(&full, others.saturating_add(1));
+            if is_airy || self.has_room(&full, others) {
+                self.add(&pen_of(told.alloc, if is_airy { "\n" } else { "" }));
                 self.add(&full);
             } else if self.has_room(&brief, 1) {
                 self.add(&brief);
@@ -153,6 +166,7 @@ impl Body {
             done = done.saturating_add(1);
         }
         self.add_left(entries.total.saturating_sub(done));
+        self.pen.put("\n");
         Ok(())
     }
 

@@ -1,5 +1,6 @@
 //! What does no harm, or is too rare to tell alone, in one sentence.
 
+use pmt_entries::Verdict;
 use pmt_explanation::Summary;
 use pmt_fates::LEAST_EVENTS;
 use pmt_hints::{Hint, HintKind};
@@ -11,8 +12,12 @@ use pmt_telling::{
 // The most sites that are named.
 const NAMED: usize = 3;
 
-// Adds the small things, if there are some.
+// Adds the small things, if there are some, but where the trace has worse.
 pub(crate) fn push_small(pen: &mut Pen, told: &Telling<'_>, counts: &Summary) -> Made<()> {
+    let verdict = told.explanation.entries.verdict;
+    if matches!(verdict, Verdict::Fail | Verdict::Lost | Verdict::Suspect) {
+        return Ok(());
+    }
     let mut line = pen_of(told.alloc, "Small things: ");
     let start = line.len();
     push_hints(&mut line, told, HintKind::OpenAtStore)?;
@@ -26,20 +31,17 @@ pub(crate) fn push_small(pen: &mut Pen, told: &Telling<'_>, counts: &Summary) ->
     Ok(())
 }
 
+const SPLIT: &str = "a word in two cache lines, of which a crash can keep one half, at ";
+
 // Adds where the hints of this kind are that have fewer events than an entry, if there are some.
 fn push_hints(pen: &mut Pen, told: &Telling<'_>, kind: HintKind) -> Made<()> {
     let (what, enough) = match kind {
         HintKind::OpenAtStore => ("a flush unfenced at the next store, at ", LEAST_EVENTS),
-        _ => (
-            "a word in two cache lines, of which a crash can keep one half, at ",
-            u64::MAX,
-        ),
+        _ => (SPLIT, u64::MAX),
     };
     let hints = told.explanation.hints.iter();
-    let found: Vec<Hint> = hints
-        .filter(|hint| hint.kind == kind && hint.count < enough)
-        .copied()
-        .collect(told.alloc)?;
+    let hints = hints.filter(|hint| hint.kind == kind && hint.count < enough);
+    let found: Vec<Hint> = hints.copied().collect(told.alloc)?;
     if found.is_empty() {
         return Ok(());
     }
@@ -53,16 +55,15 @@ fn push_hints(pen: &mut Pen, told: &Telling<'_>, kind: HintKind) -> Made<()> {
     Ok(())
 }
 
+const BOTH: &str = "% of % flush~ and % of % fence~";
+
 // Adds how many flushes and fences do nothing, and where most.
 fn push_useless(pen: &mut Pen, told: &Telling<'_>, counts: &Summary) {
     let (form, numbers) = match (counts.flushes_dropped, counts.fences_dropped) {
         (0, 0) => return,
         (flushes, 0) => ("% of % flush~", [flushes, counts.flushes, 0, 0]),
         (0, fences) => ("% of % fence~", [fences, counts.fences, 0, 0]),
-        (flushes, fences) => (
-            "% of % flush~ and % of % fence~",
-            [flushes, counts.flushes, fences, counts.fences],
-        ),
+        (flushes, fences) => (BOTH, [flushes, counts.flushes, fences, counts.fences]),
     };
     push_break(pen, "useless: ");
     told.say(pen, form, &numbers);

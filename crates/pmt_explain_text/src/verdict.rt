@@ -1,7 +1,7 @@
 //! The verdict in a sentence.
 
 use pmt_entries::{Verdict, Weight, weight_of_site};
-use pmt_explanation::{Summary, per_cent};
+use pmt_explanation::{Summary, per_cent, summary_of};
 use pmt_pen::Pen;
 use pmt_telling::{Telling, Told, pen_of, push_text, push_wrapped};
 
@@ -11,12 +11,8 @@ const FURTHER: u64 = 4;
 const NOT_CHECKED: &str = "; no assertions, so order is not checked";
 
 // Adds the verdict on the trace, with its first entry.
-pub(crate) fn push_verdict(
-    pen: &mut Pen,
-    told: &Telling<'_>,
-    counts: &Summary,
-    first: Option<&Told<'_>>,
-) {
+pub(crate) fn push_verdict(pen: &mut Pen, told: &Telling<'_>, first: Option<&Told<'_>>) {
+    let counts = &summary_of(told.explanation);
     let verdict = told.explanation.entries.verdict;
     let mut line = pen_of(told.alloc, word_of(told, verdict));
     match verdict {
@@ -101,18 +97,14 @@ fn push_found(pen: &mut Pen, told: &Telling<'_>, counts: &Summary, first: Option
     let others = counts.never_persisted.saturating_sub(lost);
     if is_lost && others > 0 {
         pen.fill("; # more may be meant", &[others]);
-    } else if !is_lost && counts.never_persisted > 0 {
-        pen.put("; ");
-        push_never_saved(pen, told, counts, counts.never_persisted);
     }
 }
 
 // How many stores are never saved at sites that do not stand apart.
 fn lost_of(told: &Telling<'_>) -> u64 {
     let sites = told.explanation.entries.sites.iter();
-    sites
-        .filter(|site| weight_of_site(*site) == Weight::Lost)
-        .fold(0u64, |sum, site| sum.saturating_add(site.row.lost))
+    let sites = sites.filter(|site| weight_of_site(*site) == Weight::Lost);
+    sites.fold(0u64, |sum, site| sum.saturating_add(site.row.lost))
 }
 
 // Adds that so many stores are never saved.
@@ -125,11 +117,8 @@ fn push_never_saved(pen: &mut Pen, told: &Telling<'_>, counts: &Summary, lost: u
     if !told.volatile.is_empty() {
         pen.fill(" (# %)", &[per_cent(lost, counts.stores)]);
     }
-    pen.put(if lost == 1 {
-        " is never saved"
-    } else {
-        " are never saved"
-    });
+    pen.put(if lost == 1 { " is" } else { " are" });
+    pen.put(" never saved");
 }
 
 // Adds that no crash breaks an assertion, and that the stores are saved.
@@ -139,19 +128,13 @@ fn push_fine(pen: &mut Pen, told: &Telling<'_>, counts: &Summary) {
         1 => pen.put("no crash can break the assertion; "),
         count => pen.fill("no crash can break any of the # assertions; ", &[count]),
     }
-    if counts.never_persisted > 0 {
-        push_never_saved(pen, told, counts, counts.never_persisted);
-        pen.put(", which may be meant (below)");
-        return;
-    }
+    let places = told.explanation.places.iter();
+    let late = places.fold(0u64, |sum, row| sum.saturating_add(row.late));
     let form = match counts.stores {
+        _ if counts.never_persisted > 0 || late > 0 =>
+            "all stores but those below are saved in time",
         1 => "the store is saved in time",
         _ => "all % stores are saved in time",
     };
     told.say(pen, form, &[counts.stores]);
-    let places = told.explanation.places.iter();
-    let late = places.fold(0u64, |sum, row| sum.saturating_add(row.late));
-    if late > 0 {
-        told.say(pen, " but for % that may be meant (below)", &[late]);
-    }
 }

@@ -58,10 +58,8 @@ pub(crate) fn volatile_sites(told: &Telling<'_>) -> Made<HashSet<Origin>> {
 // Of each address how many stores to it are lost or late, or that it is saved after one.
 fn missed_by_address(told: &Telling<'_>) -> Made<HashMap<u64, u64>> {
     let rows = told.explanation.places.iter();
-    let saving: HashSet<Origin> = rows
-        .filter(|row| is_much(row.in_time, row.stores))
-        .map(|row| row.place)
-        .collect(told.alloc)?;
+    let rows = rows.filter(|row| is_much(row.in_time, row.stores));
+    let saving: HashSet<Origin> = rows.map(|row| row.place).collect(told.alloc)?;
     let mut missed: HashMap<u64, u64> = HashMap::new(told.alloc);
     for number in 1..told.end() {
         if let Some(stored) = told.stored(number) {

@@ -59,16 +59,15 @@ pub(crate) fn add_contrast<'a>(
     entry: &mut Told<'a>,
 ) -> Made<()> {
     let rows = told.explanation.paths.iter();
-    let paths: Vec<&PlaceRow> = rows
-        .filter(|row| told.origin(row.first) == site.row.place)
-        .collect(told.alloc)?;
+    let rows = rows.filter(|row| told.origin(row.first) == site.row.place);
+    let paths: Vec<&PlaceRow> = rows.collect(told.alloc)?;
     let label = told.label(site.first).unwrap_or("");
     let mut line = Pen::new(told.alloc);
     if let Some(split) = split_of(told, paths.as_slice(), label) {
         let own = words_of(&site.row);
         push_split(&mut line, told, &split, own, ": % of % in time");
         entry.call = Some(split.frame);
-        entry.site = Pen::new(told.alloc);
+        entry.site.put(", called by ");
         push_call(&mut entry.site, split.frame);
         if split.is_only() {
             entry.gist.put(" by this caller alone; meant?");
@@ -76,9 +75,7 @@ pub(crate) fn add_contrast<'a>(
     } else if stores_of(&site.row) > 1 {
         push_share(&mut line, told, &site.row, sites);
     }
-    if line.len() > 0 {
-        entry.aside(line);
-    }
+    entry.aside(line);
     Ok(())
 }
 

@@ -1,55 +1,41 @@
 //! Entries of failed assertions.
 
 use crate::contrast::{add_failing_call, push_share};
-use crate::partners::{IN_VAIN, Saving, is_stray, saving_of};
+use crate::losses::sign_of;
+use crate::partners::{IN_VAIN, Saving, early_flush, flush_about, is_stray, saving_of};
 use crate::sites::{push_site, push_spot, site_frame};
 use crate::telling::{Made, NEAR, Telling};
 use crate::told::Told;
 use crate::words::{named_of, pen_of, push_comma, push_more};
-use pmt_causes::{AssertionKind, CauseKind, FailureKey, Group, Origin};
+use pmt_causes::{AssertionKind, FailureKey, Group, Origin};
+use pmt_entries::Site;
 use pmt_failures::ShownFailure;
+use pmt_hints::HintKind;
 use pmt_pen::Pen;
 use pmt_reasons::{Cause, Mend};
 
-/// Of how many causes the entry of the cause with this index tells: of itself and those behind it that lose a store of the same site for the same
-/// reason.
-pub fn causes_told(told: &Telling<'_>, index: u64) -> u64 {
-    let index = index as usize;
-    let first = told_with(told, index);
-    let next = index.saturating_add(1)..told.explanation.failures.len();
-    let others = next.take_while(|other| first.is_some() && told_with(told, *other) == first);
-    (others.count() as u64).saturating_add(1)
-}
-
-// What causes that are told together have in common: the site of the lost store, the kind of cause, and whether another thread asserts.
-fn told_with(told: &Telling<'_>, index: usize) -> Option<(Origin, CauseKind, bool)> {
-    let shown = told.explanation.failures.get(index)?;
-    let group = told.explanation.causes.get(index)?;
-    let lost = shown.failure.lost.store;
-    let is_crossing = told.thread(lost) != told.thread(shown.event);
-    Some((told.origin(lost), group.key.cause, is_crossing))
-}
-
-/// What is told of the causes of failed assertions from the one with this index on that are told with it; nothing where it is not known in full.
+/// What is told of so many causes of failed assertions from the one with this index on; nothing where it is not known in full.
 /// With its whole story it takes a look at all assertions, and at the events after the lost store.
 ///
 /// # Errors
 /// Where memory was refused.
-pub fn failure_entry<'a>(told: &Telling<'a>, index: u64, has_story: bool) -> Made<Told<'a>> {
+pub fn failure_entry<'a>(told: &Telling<'a>, at: u64, count: usize, whole: bool) -> Made<Told<'a>> {
     let mut entry = Told::new(told.alloc);
-    let Some(shown) = told.explanation.failures.get(index as usize).copied() else {
+    let Some(shown) = told.explanation.failures.get(at as usize).copied() else {
         return Ok(entry);
     };
-    let saving = saving_of(told, shown.failure.lost.store, has_story)?;
+    let saving = saving_of(told, shown.failure.lost.store, whole)?;
     let early = early_for(told, &shown, saving);
     push_what(&mut entry.what, told, &shown, early.is_some());
-    push_claims(&mut entry.why, told, index);
+    push_claims(&mut entry.why, told, at, count);
     push_site(&mut entry.site, told, told.origin(shown.event));
     entry.gist.put("a crash can lose it");
-    if has_story {
+    if whole {
         add_failing_call(&mut entry, told, shown.event);
     }
-    if loses_last_line(told, &shown) {
+    if early_for_lost(told, &shown).is_some() {
+        entry.aside(pen_of(told.alloc, STORED_AFTER));
+    } else if loses_last_line(told, &shown) {
         entry.aside(pen_of(told.alloc, LAST_LINE));
     }
     add_missed(&mut entry, told, shown.failure.lost.store);
@@ -84,8 +70,7 @@ fn push_what(pen: &mut Pen, told: &Telling<'_>, shown: &ShownFailure, is_early: 
 }
 
 // Adds the assertions of the causes that are told together.
-fn push_claims(pen: &mut Pen, told: &Telling<'_>, index: u64) {
-    let count = causes_told(told, index) as usize;
+fn push_claims(pen: &mut Pen, told: &Telling<'_>, index: u64, count: usize) {
     let named = named_of(count);
     let causes = told.explanation.causes.iter().skip(index as usize);
     for (place, cause) in causes.take(named).enumerate() {
@@ -130,23 +115,41 @@ fn add_missed(entry: &mut Told<'_>, told: &Telling<'_>, store: u64) {
     }
 }
 
-/// Whether a store of this site is one that an assertion told in full loses.
-pub fn loses_claimed(told: &Telling<'_>, place: Origin) -> bool {
+/// Whether an assertion told in full loses a store of this site, and says what the site's sign says, if it has one.
+pub fn tells_loss(told: &Telling<'_>, site: &Site) -> bool {
+    let sign = sign_of(told, site).map(|hint| hint.kind);
     let mut failures = told.explanation.failures.iter();
-    failures.any(|shown| told.origin(shown.failure.lost.store) == place)
+    failures.any(|shown| told.origin(shown.failure.lost.store) == site.row.place
+        && match sign {
+            None => true,
+            Some(HintKind::StoredAfterFlush) => early_for_lost(told, shown).is_some(),
+            Some(_) => false,
+        })
+}
+
+const STORED_AFTER: &str = "the lost store comes after the flush of its cache line";
+
+// The flush of the lost store's cache line that comes too early for it, where none follows by the crash.
+fn early_for_lost(told: &Telling<'_>, shown: &ShownFailure) -> Option<u64> {
+    let flush = early_flush(told, shown.failure.lost.store);
+    flush.filter(|_| matches!(shown.cause, Cause::Unflushed))
 }
 
 const LAST_LINE: &str =
     "the last cache line of the range is lost: does the flush end one line short?";
 
-// Whether the assertion loses the last of several cache lines of its range.
+// Whether the assertion loses the last of several cache lines of its range, which its thread does not flush about then.
 fn loses_last_line(told: &Telling<'_>, shown: &ShownFailure) -> bool {
     let Some(range) = told.first_range(shown.event) else {
         return false;
     };
     let size = told.trace.format().line_size();
     let last = range.end.saturating_sub(1) / size;
-    range.start / size < last && shown.failure.lost.byte / size == last
+    let lost = shown.failure.lost;
+    range.start / size < last
+        && lost.byte / size == last
+        && matches!(shown.cause, Cause::Unflushed)
+        && flush_about(told, lost.store).is_none()
 }
 
 // Adds the events that tell why the store is lost.
@@ -163,9 +166,11 @@ fn add_story(entry: &mut Told<'_>, told: &Telling<'_>, shown: &ShownFailure, sav
         Cause::Later => return,
         Cause::Unflushed => {
             let lost = shown.failure.lost.store;
+            let early = early_for_lost(told, shown);
+            entry.row(early, "before the store: too early");
             let mut near = lost..shown.event.min(lost.saturating_add(NEAR));
             let stray = near.find(|number| is_stray(told, lost, *number));
-            entry.row(stray, IN_VAIN);
+            entry.row(stray.filter(|_| early.is_none()), IN_VAIN);
             let flush = saving.flush.filter(|flush| saving.saves != Some(*flush));
             entry.row(flush, "flushed only here");
         }

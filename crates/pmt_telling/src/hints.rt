@@ -40,19 +40,17 @@ pub fn hint_entry<'a>(told: &Telling<'a>, index: u64) -> Told<'a> {
 /// Adds what the hint tells, where, and how often.
 pub fn push_head(pen: &mut Pen, told: &Telling<'_>, hint: &Hint) {
     let form = match hint.kind {
-        HintKind::OpenAtStore => "no fence between the flush and the next store, at ",
-        HintKind::StoredAfterFlush => "a store comes after the flush of its cache line, at ",
-        HintKind::OneLineShort => "the flush ends one cache line short of what is stored, at ",
-        HintKind::SplitWord => "a word lies in two cache lines, of which a crash can keep one, at ",
+        HintKind::OpenAtStore => "no fence between the flush and the next store (*), at ",
+        HintKind::StoredAfterFlush => "a store comes after the flush of its cache line (*), at ",
+        HintKind::OneLineShort => "the flush ends one cache line short (*), at ",
+        HintKind::SplitWord =>
+            "a word lies in two cache lines, of which a crash can keep one (*), at ",
         HintKind::StoredAfterMark => "% word~ stored after the one that publishes, at ",
     };
     told.say(pen, form, &[hint.count]);
     push_site(pen, told, hint.place);
     if let Some(path) = hint.path {
         push_caller(pen, told, path);
-    }
-    if !matches!(hint.kind, HintKind::StoredAfterMark) {
-        told.say(pen, " (*)", &[hint.count]);
     }
 }
 
@@ -84,27 +82,31 @@ fn tell_open<'a>(entry: &mut Told<'a>, told: &Telling<'a>, hint: &Hint, counts: 
         return;
     };
     entry.row(Some(store), "a crash can keep it");
-    add_contrast(entry, told, store, counts);
+    let mut aside = Pen::new(told.alloc);
     if let Some(call) = told.caller(store) {
-        let mut aside = told.said("event # is stored by way of ", &[store]);
+        aside.fill("event # is stored by way of ", &[store]);
         push_call(&mut aside, call);
-        entry.aside(aside);
         entry.call = Some(call);
     }
+    push_contrast(&mut aside, told, store, counts);
+    entry.aside(aside);
     let form = "fence between events # and #, if the second must not be saved without the first";
     entry.fix.fill(form, &[flush, store]);
 }
 
-// Adds how often what the store is to is stored to with nothing open, if so it is for the most part.
-fn add_contrast(entry: &mut Told<'_>, told: &Telling<'_>, store: u64, contrast: Option<Contrast>) {
-    let Some(Contrast { clear, all }) = contrast else {
+const HABIT: &str =
+    ": a habit, and fine if recovery trusts no such store before the fence that follows";
+
+// Adds at how many stores to the same address a flush waits for its fence, if there are others.
+fn push_contrast(pen: &mut Pen, told: &Telling<'_>, store: u64, contrast: Option<Contrast>) {
+    let Some(Contrast { clear, all }) = contrast.filter(|contrast| contrast.all > 1) else {
         return;
     };
-    if all.saturating_sub(clear) < clear {
-        let form = "stores to @: # of # come with nothing left unfenced";
-        let address = told.address(store).unwrap_or(0);
-        entry.aside(told.said(form, &[address, clear, all]));
-    }
+    pen.put(if pen.len() > 0 { "; " } else { "" });
+    let open = all.saturating_sub(clear);
+    let form = "a flush waits for its fence at % of the % stores there, to @";
+    told.say(pen, form, &[open, all, told.address(store).unwrap_or(0)]);
+    pen.put(if clear == 0 { HABIT } else { "" });
 }
 
 // Tells of a store that comes after the flush of its line.

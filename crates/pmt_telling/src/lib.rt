@@ -4,6 +4,7 @@
 mod contrast;
 mod failures;
 mod hints;
+mod joining;
 mod layout;
 mod left;
 mod loss_story;
@@ -17,10 +18,11 @@ mod told;
 mod words;
 
 pub use crate::contrast::missed_of;
-pub use crate::failures::{causes_told, failure_entry, loses_claimed, push_claim};
+pub use crate::failures::{failure_entry, push_claim, tells_loss};
 pub use crate::hints::{hint_entry, push_head};
+pub use crate::joining::together;
 pub use crate::layout::{push_brief, push_full};
-pub use crate::left::{left_entry, push_left_head};
+pub use crate::left::{left_entry, left_row, push_left_head};
 pub use crate::losses::{late_in, loss_entry, lost_in, push_all, sites_of};
 pub use crate::rows::{lines_of, push_line, push_wrapped};
 pub use crate::sites::{push_site, push_sites, push_spot, site_frame, spot_of};

@@ -1,7 +1,7 @@
 //! Why a store is never saved, or late: the reason, the few events that tell it, and the fix.
 
 use crate::losses::{late_in, sign_of};
-use crate::partners::{IN_VAIN, is_stray, partner_of};
+use crate::partners::{IN_VAIN, early_flush, is_stray};
 use crate::sites::{push_call, push_site};
 use crate::telling::NEAR;
 use crate::{Crashes, Made, Telling, Told, push_lines};
@@ -75,11 +75,9 @@ pub(crate) fn add_story(
 // The crashes that can lose the store: until it is safe; of one that is never safe, until its thread's next fence.
 fn crashes_of(told: &Telling<'_>, shown: &Shown) -> Option<Crashes> {
     let from = shown.store;
-    let to = if shown.story.is_safe() {
-        shown.story.numbers().last().copied()?
-    } else {
-        shown.fence
-    };
+    let last = shown.story.numbers().last().copied()?;
+    let is_safe = shown.story.is_safe();
+    let to = if is_safe { last } else { shown.fence };
     Some(Crashes { from, to }).filter(|_| to < told.end())
 }
 
@@ -88,9 +86,7 @@ fn why_of(told: &Telling<'_>, main: &Site, story: &StoreStory) -> Why {
     if let Some(hint) = sign_of(told, main) {
         match hint.kind {
             HintKind::StoredAfterFlush => {
-                let mut own = hint;
-                own.first = main.first;
-                return Why::AfterFlush(partner_of(told, &own));
+                return Why::AfterFlush(early_flush(told, main.first));
             }
             HintKind::OneLineShort => return Why::Short(hint.first),
             HintKind::SplitWord | HintKind::OpenAtStore | HintKind::StoredAfterMark => {}
@@ -122,11 +118,8 @@ fn add_call(told: &Telling<'_>, sites: &[Site], shown: &mut Shown) -> Made<()> {
     let loses = told.is_lost(shown.store);
     for number in shown.store..shown.fence.min(shown.store.saturating_add(NEAR)) {
         let place = told.origin(number);
-        let is_missed = if loses {
-            told.is_lost(number)
-        } else {
-            told.waited(number) >= 2
-        };
+        let is_late = !loses && told.waited(number) >= 2;
+        let is_missed = is_late || loses && told.is_lost(number);
         let is_here = sites.iter().any(|site| site.row.place == place);
         if is_missed && told.thread(number) == thread && is_here {
             shown.lines.push(told.line(number).unwrap_or(0))?;
@@ -143,11 +136,18 @@ fn add_rows(told: &Telling<'_>, shown: &Shown, entry: &mut Told<'_>) {
     match shown.why {
         Why::Short(flush) => entry.row(Some(flush), "the last line flushed"),
         Why::AfterFlush(flush) => entry.row(flush, "flushes the line, too early"),
-        _ => {
+        Why::NeverFenced(_) | Why::FencedLate(_) => {}
+        Why::NeverFlushed | Why::FlushedLate => {
             let end = told.next_fence(shown.fence).unwrap_or(shown.fence);
-            let mut near = shown.store..end.min(shown.store.saturating_add(NEAR));
-            let stray = near.find(|number| is_stray(told, shown.store, *number));
+            let store = shown.store;
+            let mut near = store..end.min(store.saturating_add(NEAR));
+            let stray = near.find(|number| is_stray(told, store, *number));
             entry.row(stray, IN_VAIN);
+            let thread = told.thread(store);
+            let mut near = store..shown.fence.min(store.saturating_add(NEAR));
+            let other = near.find(|number| told.is_flush(*number)
+                && told.thread(*number) == thread);
+            entry.row(other.filter(|_| stray.is_none()), "flushes another line");
         }
     }
     for number in shown.story.numbers() {

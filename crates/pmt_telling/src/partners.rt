@@ -16,7 +16,8 @@ pub(crate) fn partner_of(told: &Telling<'_>, hint: &Hint) -> Option<u64> {
         HintKind::OpenAtStore => {
             (first..first.saturating_add(NEAR)).find(|other| goes_with(told, hint, *other))
         }
-        HintKind::SplitWord | HintKind::StoredAfterFlush | HintKind::OneLineShort => {
+        HintKind::StoredAfterFlush => early_flush(told, first),
+        HintKind::SplitWord | HintKind::OneLineShort => {
             let mut before = (first.saturating_sub(NEAR)..first).rev();
             before.find(|other| goes_with(told, hint, *other))
         }
@@ -32,12 +33,26 @@ fn goes_with(told: &Telling<'_>, hint: &Hint, other: u64) -> bool {
     told.thread(other) == told.thread(hint.first)
         && match hint.kind {
             HintKind::SplitWord => is_store,
-            HintKind::StoredAfterMark => false,
-            HintKind::StoredAfterFlush => !is_store && other_line == line,
+            HintKind::StoredAfterMark | HintKind::StoredAfterFlush => false,
             HintKind::OpenAtStore => is_store && other_line != line,
             HintKind::OneLineShort => is_store
                 && other_line == line.map(|line| line.saturating_add(1)),
         }
+}
+
+// The last flush of the store's cache line that its thread makes between its fences about the store, if it stands near.
+pub(crate) fn flush_about(told: &Telling<'_>, store: u64) -> Option<u64> {
+    let thread = told.thread(store);
+    let next = told.next_fence(store).unwrap_or(store.saturating_add(NEAR));
+    let near = (store.saturating_sub(NEAR)..next).rev();
+    let own = near.filter(|number| told.thread(*number) == thread);
+    let mut about = own.take_while(|number| !told.is_fence(*number));
+    about.find(|number| told.is_flush(*number) && told.line(*number) == told.line(store))
+}
+
+// That flush, if it comes before the store, and so too early for it.
+pub(crate) fn early_flush(told: &Telling<'_>, store: u64) -> Option<u64> {
+    flush_about(told, store).filter(|flush| *flush < store)
 }
 
 // The last store to the line of the flush before it, if it stands near.
@@ -64,9 +79,8 @@ pub(crate) fn mark_of(told: &Telling<'_>, hint: &Hint) -> Option<Mark> {
     let low = fence.unwrap_or(low);
     for claim in first..first.saturating_add(NEAR).min(told.end()) {
         if let Some(range) = told.second_range(claim) {
-            let store = (low..first)
-                .rev()
-                .find(|number| is_mark(told, hint, *number, range));
+            let mut before = (low..first).rev();
+            let store = before.find(|number| is_mark(told, hint, *number, range));
             let passes = told.explanation.failing.binary_search(&claim).is_err();
             if let Some(store) = store.filter(|_| passes) {
                 return Some(Mark { store, claim });
@@ -135,13 +149,12 @@ pub(crate) const IN_VAIN: &str = "flushes another line, in vain";
 // Whether the flush does nothing: then its address may be wrong.
 fn is_idle(told: &Telling<'_>, flush: u64) -> bool {
     let dropped = told.explanation.dropped.as_slice();
-    dropped
-        .binary_search_by_key(&flush, |dropped| dropped.event)
-        .is_ok()
+    let found = dropped.binary_search_by_key(&flush, |dropped| dropped.event);
+    found.is_ok()
 }
 
 // The function of the frame at this depth; nothing where there is none.
-fn function_at(label: &str, depth: usize) -> &str {
+pub(crate) fn function_at(label: &str, depth: usize) -> &str {
     let frame = frame_at(label, depth).unwrap_or("");
     let function = frame.split(' ').find(|word| !word.contains(":"));
     function.unwrap_or("")

@@ -74,11 +74,8 @@ pub fn lines_of(text: &Pen) -> usize {
 
 /// How many columns the text takes.
 pub fn width_of(text: &str) -> u64 {
-    let letters = text.chars();
-    letters.fold(
-        0u64,
-        |width, letter| width.saturating_add(letter_width(letter)),
-    )
+    let widths = text.chars().map(|letter| letter_width(letter));
+    widths.fold(0u64, |sum, width| sum.saturating_add(width))
 }
 
 // How many columns the letter takes.

@@ -107,11 +107,8 @@ fn push_row(
     let used = width_of(line.as_str()).saturating_add(width_of(found.text.trim()));
     let room = WIDTH.saturating_sub(used.saturating_add(3));
     let short = spot_of(frame);
-    let name = if width_of(frame) <= room {
-        frame
-    } else {
-        short
-    };
+    let has_room = width_of(frame) <= room;
+    let name = if has_room { frame } else { short };
     line.put(name);
     let is_below = is_whole && width_of(short) > room;
     if !is_below {
@@ -131,15 +128,11 @@ fn source_at<'a>(told: &Telling<'a>, place: SourcePlace<'_>) -> Option<&'a Sourc
 }
 
 // The line of source of the event at this place of these events, a row each, if it was read and no row above has it.
-fn source_under<'a>(
-    told: &Telling<'a>,
-    events: &[u64],
-    index: usize,
-) -> Option<&'a SourceLine<'a>> {
-    if events.len() <= index {
+fn source_under<'a>(told: &Telling<'a>, events: &[u64], row: usize) -> Option<&'a SourceLine<'a>> {
+    if events.len() <= row {
         return None;
     }
-    source_at(told, place_under(told.labels, events, index)?)
+    source_at(told, place_under(told.labels, events, row)?)
 }
 
 /// Adds a line with the line of source that the frame names, if it was read.

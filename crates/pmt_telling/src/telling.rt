@@ -178,10 +178,8 @@ impl<'a> Telling<'a> {
 
     /// Whether the event is a flush.
     pub fn is_flush(&self, number: u64) -> bool {
-        matches!(
-            self.op(number),
-            Some(Op::Clwb(_) | Op::ClflushOpt(_) | Op::Clflush(_))
-        )
+        let op = self.op(number);
+        matches!(op, Some(Op::Clwb(_) | Op::ClflushOpt(_) | Op::Clflush(_)))
     }
 
     /// The number behind that of the last event.

@@ -64,9 +64,9 @@ impl<'a> Told<'a> {
         }
     }
 
-    // Adds the paragraph.
+    // Adds the paragraph, if it has words.
     pub(crate) fn aside(&mut self, aside: Pen) {
-        if self.asides.push(aside).is_err() {
+        if aside.len() > 0 && self.asides.push(aside).is_err() {
             self.what.refuse();
         }
     }
