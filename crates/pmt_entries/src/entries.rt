@@ -1,6 +1,7 @@
 //! What is told of a trace, what weighs most first.
 
-ghost use Rattle.std.specs.Prelude.{◌≡◌, IfOk, OnOk, map};
+ghost use Rattle.std.specs.Prelude.{◌≡◌, IfOk, IfSome, OnOk, map};
+ghost use Rattle.pmt_explain.specs.Following.{IsUpcoming};
 ghost use Rattle.pmt_laws.specs.Prelude.{enumerate_from, range_with_len, IsVerdicts, list_any};
 ghost use Rattle.pmt_entries.specs.Entries.{AreByWeight, AreContrastsIf, AreEntries, entries_in_turn, failure_entry, loss_entry, is_any_with, is_open_hint as is_open_hint_in};
 
@@ -12,6 +13,7 @@ use crate::sites::{Site, sites_of};
 use crate::verdict::{Verdict, verdict_of};
 use crate::weight::{Weight, rank_of};
 use pmt_causes::Group;
+use pmt_explain::Upcoming;
 use pmt_fates::PlaceTable;
 use pmt_hints::{Contrast, Hint, HintKind, contrasts_of};
 use pmt_model::{OutOfMemory, Trace, Verdict as Judged};
@@ -56,7 +58,7 @@ pub struct Entries {
 
 /// The entries of a trace with these verdicts on its assertions, so many causes of failed ones, these rows of sites and paths, and all of
 /// these hints. Its events have these numbers of innermost frames; these stores are told as never persisted, and each event waits for so
-/// many fences.
+/// many fences. `upcoming` is what comes next after each event, if that is known.
 ///
 /// It takes a look-up at each row and hint, and a few looks at each event where a site loses or delays stores, or there is a hint.
 ///
@@ -72,8 +74,10 @@ pub fn entries_of(
     hints: &[Hint],
     told: &[u64],
     waited: &[u64],
+    upcoming: &Option<Upcoming>,
 ) -> Result<Entries, OutOfMemory>
-    requires { IsVerdicts trace.now verdicts.now }
+    requires verdicts { IsVerdicts trace.now verdicts.now }
+    requires upcoming { IfSome upcoming.now (IsUpcoming trace.now) }
     ensures { IfOk result (AreEntries trace.now verdicts.now failures frames.now table.now hints.now told.now waited.now) }
 {
     let claimed = claimed_of(alloc, trace, verdicts, table.places.as_slice())?;
@@ -86,6 +90,7 @@ pub fn entries_of(
         told,
         waited,
         claimed.as_slice(),
+        upcoming,
     )?;
     let losses = losses_of(alloc, sites.as_slice())?;
     let contrasts = contrasts_if(alloc, trace, frames, hints)?;

@@ -1,7 +1,8 @@
 //! Sites that lose or delay stores, and what tells whether that is meant.
 
-ghost use Rattle.std.specs.Prelude.{◌≡◌, filter, map, IfOk};
+ghost use Rattle.std.specs.Prelude.{◌≡◌, filter, map, IfOk, IfSome};
 ghost use Rattle.pmt_laws.specs.Prelude.{list_any, event};
+ghost use Rattle.pmt_explain.specs.Following.{IsUpcoming};
 ghost use Rattle.pmt_fates.specs.Places.{misses as misses_in};
 ghost use Rattle.pmt_entries.specs.Sites.{contrast_by, scratch_by, claimed_by, site_by, AreSites, first_missed as first_missed_in, thread_in};
 
@@ -10,7 +11,7 @@ use crate::contrast::{misses, misses_few, mixed_paths};
 use crate::place_sets::{Places, places_of};
 use crate::scratch::{Lines, first_line, loses_all, scratch_lines, touched_places};
 use crate::signs::{Signs, sign_of, signs_of};
-use pmt_explain::{number_of, own_fences};
+use pmt_explain::{Upcoming, fences_by, number_of};
 use pmt_fates::{PlaceRow, PlaceTable};
 use pmt_hints::Hint;
 use pmt_model::{OutOfMemory, Trace};
@@ -62,7 +63,7 @@ pub(crate) struct Facts {
 ///
 /// `frames` are the numbers of the innermost frames of the events' labels, by which `table` was made. `told` are the stores told as never
 /// persisted; of each event, in order, `waited` tells for how many fences it waits, and `claimed` whether it is a store that an assertion
-/// claims.
+/// claims. `upcoming` is what comes next after each event, if that is known.
 ///
 /// It takes one look at each row. Where one loses or delays a store, it takes another look at each event and each hint; where one loses all
 /// that it stores to one address, one more at each event, with a look-up at each flush and each line of an assertion; and where one delays
@@ -79,14 +80,16 @@ pub fn sites_of(
     told: &[u64],
     waited: &[u64],
     claimed: &[bool],
+    upcoming: &Option<Upcoming>,
 ) -> Result<Vec<Site>, OutOfMemory>
+    requires { IfSome upcoming.now (IsUpcoming trace.now) }
     ensures { IfOk result (λ sites. AreSites trace.now frames.now table.now hints.now told.now waited.now claimed.now sites.items) }
 {
     let rows = table.places.as_slice();
     if !is_any_missed(rows) {
         return Ok(Vec::new(alloc));
     }
-    let fences = own_fences(alloc, trace)?;
+    let fences = fences_by(alloc, trace, upcoming)?;
     let signs = signs_of(alloc, trace, fences.as_slice(), hints)?;
     let paths = table.paths.as_slice();
     let mixed = mixed_paths(alloc, paths)?;

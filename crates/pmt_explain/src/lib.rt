@@ -41,4 +41,4 @@ pub use crate::lost_grouping::{LostGroup, lost_groups};
 pub use crate::numbers::Numbers;
 pub use crate::overwritten_grouping::{Overwriting, OverwrittenGroup, overwritten_groups};
 pub use crate::saving::{SafePlaces, safe_places};
-pub use crate::upcoming::{Upcoming, next_flushes, number_of, own_fences, upcoming_of};
+pub use crate::upcoming::{Upcoming, fences_by, next_flushes, number_of, upcoming_of};

@@ -1,6 +1,6 @@
 //! What comes next after each event.
 
-ghost use Rattle.std.specs.Prelude.{◌≡◌, ◌-◌, ◌<◌, ℕ, slice_index, IfOk, OnOk};
+ghost use Rattle.std.specs.Prelude.{◌≡◌, ◌-◌, ◌<◌, ℕ, slice_index, IfOk, IfSome, OnOk};
 ghost use Rattle.pmt_model.specs.Traces.{act_of};
 ghost use Rattle.pmt_explain.specs.Numbers.{number_at};
 ghost use Rattle.pmt_explain.specs.Following.{AreNextFlushes, AreOwnFences, IsUpcoming, fence_by, fence_of, next_before, next_in};
@@ -12,7 +12,7 @@ use std::alloc::Global;
 /// What comes next after each event of a trace.
 #[derive(Drop)]
 pub struct Upcoming {
-    /// The next fences, as `own_fences` gives them.
+    /// The next fences, as `fences_by` gives them.
     pub fences: Vec<u64>,
     /// The next flushes, as `next_flushes` gives them.
     pub flushes: Vec<u64>,
@@ -32,13 +32,8 @@ pub fn upcoming_of(alloc: Global, trace: &Trace) -> Result<Upcoming, OutOfMemory
     Ok(Upcoming { fences, flushes })
 }
 
-/// Of each event, in order, the next fence of its thread; one more than the last number where there is none.
-///
-/// It takes one look at each event.
-///
-/// # Errors
-/// Where memory was refused.
-pub fn own_fences(alloc: Global, trace: &Trace) -> Result<Vec<u64>, OutOfMemory>
+// Of each event, in order, the next fence of its thread.
+fn own_fences(alloc: Global, trace: &Trace) -> Result<Vec<u64>, OutOfMemory>
     ensures { IfOk result (λ fences. AreOwnFences trace.now fences.items) }
 {
     let events = trace.events();
@@ -51,6 +46,27 @@ pub fn own_fences(alloc: Global, trace: &Trace) -> Result<Vec<u64>, OutOfMemory>
         fences[index] = fence;
         next.note(event.thread, event.op, index as u64 + 1);
     }
+    Ok(fences)
+}
+
+/// Of each event, in order, the next fence of its thread; one more than the last number where there is none. `upcoming` is what comes next
+/// after each event, if that is known: then they are copied, and else it takes one look at each event.
+///
+/// # Errors
+/// Where memory was refused.
+pub fn fences_by(
+    alloc: Global,
+    trace: &Trace,
+    upcoming: &Option<Upcoming>,
+) -> Result<Vec<u64>, OutOfMemory>
+    requires { IfSome upcoming.now (IsUpcoming trace.now) }
+    ensures { IfOk result (λ fences. AreOwnFences trace.now fences.items) }
+{
+    let Some(upcoming) = upcoming else {
+        return own_fences(alloc, trace);
+    };
+    let mut fences = Vec::new(alloc);
+    fences.extend_from_slice(upcoming.fences.as_slice())?;
     Ok(fences)
 }
 

@@ -127,6 +127,7 @@ fn told_of(
     table: &PlaceTable,
     hints: Vec<Hint>,
 ) -> Result<Told, OutOfMemory>
+    requires { IfSome begun.now.firsts.upcoming (IsUpcoming analysis.now.trace) }
     ensures { (numbers : List (Option ℕ)) → AreHints analysis.now.trace frames.now numbers hints.items → IfOk result (AreTold analysis.now labels.now numbers frames.now options.now begun.now table.now) }
 {
     let trace = analysis.trace();
@@ -141,6 +142,7 @@ fn told_of(
         hints.as_slice(),
         begun.risks.lost.stores.as_slice(),
         begun.firsts.waited.as_slice(),
+        &begun.firsts.upcoming,
     )?;
     Ok(Told {
         hints,
@@ -282,7 +284,11 @@ fn placed_of<R: Threads + Sync>(
     let upcoming = &begun.firsts.upcoming;
     join_mut(
         rt,
-        &mut || place_table(alloc, safe, waited, frames, numbers, stores, dropped),
+        &mut || {
+            place_table(
+                alloc, safe, waited, frames, numbers, stores, dropped, upcoming,
+            )
+        },
         &mut || late_hints(alloc, safe, waited, frames, upcoming),
     )
 }

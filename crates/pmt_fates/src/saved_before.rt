@@ -1,14 +1,14 @@
 //! What a crash keeps without a store that is saved one fence late.
 
-ghost use Rattle.std.specs.Prelude.{◌≡◌, ◌==◌, ℕ, Some, length, true, false, if◌then◌else◌, nat_lt, slice_get, slice_set, unwrap_or, IfOk};
-ghost use Rattle.pmt_explain.specs.Following.{AreSafePlaces};
+ghost use Rattle.std.specs.Prelude.{◌≡◌, ◌==◌, ℕ, Some, length, true, false, if◌then◌else◌, nat_lt, slice_get, slice_set, unwrap_or, IfOk, IfSome};
+ghost use Rattle.pmt_explain.specs.Following.{AreSafePlaces, IsUpcoming};
 ghost use Rattle.pmt_fates.specs.declared.fate.Fate.TheVariants.{Left};
 ghost use Rattle.pmt_fates.specs.Places.{fate_at, is_same};
 ghost use Rattle.pmt_fates.specs.Fates.{TellsSaved, AreLast, AreSavers, saved_by, saved_if, with_saver};
 ghost use Rattle.pmt_model.specs.Traces.{Recording};
 
 use crate::fate::Fate;
-use pmt_explain::own_fences;
+use pmt_explain::{Upcoming, fences_by};
 use pmt_model::{Op, OutOfMemory, Trace};
 use std::alloc::Global;
 
@@ -30,16 +30,18 @@ pub(crate) struct Savings {
     pub(crate) last: Vec<u64>,
 }
 
-// Those of the trace of these safe places. The trace is looked at only if one of these fates is that of a store which a fence of its thread
-// leaves unsafe.
+// Those of the trace of these safe places, where this comes next after each event, if that is known. The trace is looked at only if one of
+// these fates is that of a store which a fence of its thread leaves unsafe.
 pub(crate) fn savings_of(
     alloc: Global,
     trace: &Trace,
     safe: &[u64],
     fates: &[Fate],
+    upcoming: &Option<Upcoming>,
 ) -> Result<Savings, OutOfMemory>
     requires safe { AreSafePlaces trace.now safe.now }
     requires fates { length fates.now ≡ length trace.now.events }
+    requires upcoming { IfSome upcoming.now (IsUpcoming trace.now) }
     ensures { IfOk result (λ x. (i : ℕ) → is_same Left (fate_at fates.now i) ≡ true → TellsSaved trace.now i (saved_by safe.now x i)) }
 {
     if !has_left(fates) {
@@ -48,7 +50,7 @@ pub(crate) fn savings_of(
             last: Vec::new(alloc),
         });
     }
-    let fences = own_fences(alloc, trace)?;
+    let fences = fences_by(alloc, trace, upcoming)?;
     let savers = savers_of(alloc, trace, safe)?;
     let last = last_of(alloc, savers.as_slice())?;
     Ok(Savings { fences, last })
