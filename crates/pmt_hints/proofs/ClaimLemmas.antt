@@ -223,12 +223,12 @@ module _ (T : Recording) (l : ℕ) (ks : List ℕ) (n : ℕ) (below : (k : ℕ) 
 
 -- ---- The events that are kept, in their order
 
-rising-above : (low : ℕ) (ks : List ℕ) (k : ℕ) → IsRising low ks → Has ks k → low < k
+pub rising-above : (low : ℕ) (ks : List ℕ) (k : ℕ) → IsRising low ks → Has ks k → low < k
 rising-above low [] k r h = absurd h
 rising-above low (x ∷ xs) k r (inl here) = omega (arith, here, r.0)
 rising-above low (x ∷ xs) k r (inr more) = omega (arith, r.0, rising-above x xs k r.1 more)
 
-has-get : (ks : List ℕ) (i : ℕ) → i < length ks → Has ks (get_or ks i 0)
+pub has-get : (ks : List ℕ) (i : ℕ) → i < length ks → Has ks (get_or ks i 0)
 has-get [] i within = absurd (omega (arith, within))
 has-get (k ∷ ks) zero within = inl refl
 has-get (k ∷ ks) (suc i) within = inr (has-get ks i (omega (arith, within)))

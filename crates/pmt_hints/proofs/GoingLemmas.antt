@@ -210,7 +210,7 @@ pub before-tells : (T : Recording) (labels : List (Option ℕ)) (u i : ℕ) (lin
 before-tells T labels u i line before is tells = rw is (record { told = λ l. (λ so. (tells.told (suc l)).0 ((before-some line l).0 so), λ h. (before-some line l).1 ((tells.told (suc l)).1 h)); own = λ t l h. tells.own t (suc l) h })
 
 -- whether a store is lost or late
-first-one : (P : ℕ → Type 0) (past a b : ℕ) → IsFirst P past a → IsFirst P past b → a ≡ b
+pub first-one : (P : ℕ → Type 0) (past a b : ℕ) → IsFirst P past a → IsFirst P past b → a ≡ b
 first-one P past a b x y = go (cases_lt a b) (cases_lt b a)
   where
     go : (a < b) ⊎ (b ≤ a) → (b < a) ⊎ (a ≤ b) → a ≡ b

@@ -1,11 +1,11 @@
 -- What came last before a place, and what comes next after it, event by event.
-use Rattle.std.proofs.Common.{◌≡◌, ◌≢◌, ℕ, suc, ◌<◌, ◌≤◌, ◌⊎◌, inl, inr, refl, ap, subst, ◌∙◌, arith}
+use Rattle.std.proofs.Common.{◌≡◌, ◌≢◌, ℕ, suc, ◌<◌, ◌≤◌, ◌⊎◌, inl, inr, List, ◌∷◌, refl, sym, ap, subst, ◌∙◌, arith}
 use Rattle.std.specs.Prelude.{if◌then◌else◌}
 use Rattle.std.proofs.lemmas.Bool.{cases_lt, cases_eq, eq-eqb, ne_eqb}
-use Rattle.pmt_laws.specs.Prelude.{Act, Stores, Flushes, Clflushes, Fences, Asserts, Recording, IsAct}
+use Rattle.pmt_laws.specs.Prelude.{Act, Stores, Flushes, Clflushes, Fences, Asserts, Recording, IsAct, Has}
 use Rattle.pmt_laws.proofs.Histories.{act-unique}
 use Rattle.pmt_explain.specs.Following.{IsFirst}
-use Rattle.pmt_explain.proofs.FirstLemmas.{first-here, first-over}
+use Rattle.pmt_explain.proofs.FirstLemmas.{first-here, first-over, first-same}
 use Rattle.pmt_hints.specs.Numbers.{fence_by, flush_by}
 
 -- the last number up to n that has the property, or 0 where none has it
@@ -32,6 +32,13 @@ last-step P n x y (inr over) old = rw over.1 (record { within = omega (arith, ol
 pub next-step : (P : ℕ → Type 0) (past n x y : ℕ) → suc n ≤ past → Decides P (suc n) x y → IsFirst (λ k. (suc n < k) × P k) past x → IsFirst (λ k. (n < k) × P k) past y
 next-step P past n x y within (inl here) old = rw here.1 (first-here P past n within here.0)
 next-step P past n x y within (inr over) old = rw over.1 (first-over P past n x over.0 old)
+
+-- of listed numbers, one more before them
+pub listed-step : (P : ℕ → Type 0) (past n x y : ℕ) (later : List ℕ) → suc n ≤ past → ((k : ℕ) → Has later k → suc n < k) → Decides P (suc n) x y → IsFirst (λ k. Has later k × P k) past x → IsFirst (λ k. Has (suc n ∷ later) k × P k) past y
+listed-step P past n x y later within above (inl here) old =
+    rw here.1 (record { within = within; has = λ h. (inl refl, here.0); none_before = λ k below h. elim h.0 [ inl e ↦ absurd (omega (arith, e, below)) | inr more ↦ absurd (omega (arith, above k more, below)) ] })
+listed-step P past n x y later within above (inr over) old =
+    rw over.1 (first-same (λ k. Has later k × P k) (λ k. Has (suc n ∷ later) k × P k) past x (λ k h. (inr h.0, h.1)) (λ k h. elim h.0 [ inl e ↦ absurd (over.0 (subst P (sym e) h.1)) | inr more ↦ (more, h.1) ]) old)
 
 -- the fences of a thread
 pub fence-decides : (T : Recording) (n number t x : ℕ) (a : Act) → number ≡ suc n → IsAct T (suc n) a → Decides (λ k. IsAct T k (Fences t)) (suc n) x (fence_by a number t x)

@@ -1,14 +1,14 @@
 -- Of which places flushes are told as open at a store.
-use Rattle.std.proofs.Common.{◌≡◌, ℕ, ◌⊎◌, inl, inr, Bool, true, false, List, [], ◌∷◌, Option, None, Some, refl, sym, ap, ◌∙◌, arith}
-use Rattle.std.specs.Prelude.{◌||◌, ◌&&◌, if◌then◌else◌, not}
+use Rattle.std.proofs.Common.{◌≡◌, ℕ, inl, inr, Bool, true, false, List, [], ◌∷◌, Option, None, Some, refl, sym, ap, ◌∙◌}
+use Rattle.std.specs.Prelude.{◌||◌, not}
 use Rattle.std.proofs.lemmas.Bool.{false≢true}
 use Rattle.std.proofs.lemmas.Option.{none-some, same_Some}
-use Rattle.pmt_laws.specs.Prelude.{Event, Op, Store, Clwb, ClflushOpt, Clflush, Sfence, Mfence, IsPersist, IsOrderedBefore, Layout, line_of, Flushes, Recording, IsAct, act_of, event, IsRising, Has, IsKeep, filter, list_any}
+use Rattle.pmt_laws.specs.Prelude.{Event, Op, Store, Clwb, ClflushOpt, Clflush, Sfence, Mfence, IsPersist, IsOrderedBefore, Layout, line_of, Flushes, Recording, IsAct, act_of, event, Has, IsKept, filter, list_any}
 use Rattle.pmt_causes.specs.declared.failure_keys.Origin.{Origin}
 use Rattle.pmt_causes.specs.Groups.{origin_of}
-use Rattle.pmt_hints.specs.Hints.{AreThose, IsOpenFlush, IsOpenThroughout}
+use Rattle.pmt_hints.specs.Hints.{AreThose, IsOpenAtStore, IsOpenFlush, IsOpenThroughout}
 use Rattle.pmt_hints.specs.declared.places.Places.{Places}
-use Rattle.pmt_hints.specs.Contrasts.{has_place, is_closed, is_place, op_place, place_of, told_so}
+use Rattle.pmt_hints.specs.Contrasts.{AreShut, has_place, is_closed, op_place, place_of, told_so}
 use Rattle.pmt_hints.proofs.OpenAtLemmas.{filter-has, filter-rising}
 
 -- a test that some number of a list passes
@@ -65,15 +65,6 @@ place-flush T labels i q e = go (event T i) refl e
 pub closed-more : (a b c d : Bool) → a ≡ (b || c) → b ≡ d → a ≡ (d || c)
 closed-more a b c d is same = is ∙ ap (λ x. x || c) same
 
--- a test of those that pass another one
-pub any-sifted : (p f : ℕ → Bool) (xs : List ℕ) → list_any (λ i. p i && f i) xs ≡ list_any f (filter p xs)
-any-sifted p f [] = refl
-any-sifted p f (x ∷ xs) = grind (arith, any-sifted p f xs)
-
-pub place-unless : (p : Origin) (b : Bool) (o : Option Origin) → is_place p (if b then None else o) ≡ (not b && is_place p o)
-place-unless p true o = refl
-place-unless p false o = refl
-
 pub not-true-false : (b : Bool) → not b ≡ true → b ≡ false
 not-true-false true e = sym e
 not-true-false false e = refl
@@ -82,25 +73,13 @@ pub not-true : (b : Bool) → (b ≡ true → ⊥) → b ≡ false
 not-true true off = absurd (off refl)
 not-true false off = refl
 
--- one of these events is a flush of the place that is not open
-abbrev pub IsShut : Recording → List (Option ℕ) → List ℕ → Origin → Type 0
-IsShut T labels numbers p = (j : ℕ) × (t : ℕ) × (l : ℕ) × Has numbers j × IsAct T j (Flushes t l) × (p ≡ origin_of labels j t) × (¬ IsOpenFlush T j)
-
--- of the events with these numbers, open flushes, in their order, and places that have another flush; each flush is one of these, or of such
--- a place
-pub record AreSifted (T : Recording) (labels : List (Option ℕ)) (numbers passed : List ℕ) (closed : Places) : Type 0 where
-  pub rising : IsRising 0 passed
-  pub are_open : (i : ℕ) → Has passed i → Has numbers i × IsOpenFlush T i
-  pub shut : (p : Origin) → has_place closed p ≡ true → IsShut T labels numbers p
-  pub each : (i t l : ℕ) → Has numbers i → IsAct T i (Flushes t l) → Has passed i ⊎ (has_place closed (origin_of labels i t) ≡ true)
-
 -- an event that is told, and one that is to be told
-module _ (T : Recording) (labels : List (Option ℕ)) (kept passed : List ℕ) (closed : Places) (keep : IsKeep T kept) (x : AreSifted T labels kept passed closed) where
+module _ (T : Recording) (labels : List (Option ℕ)) (passed : List ℕ) (closed : Places) (those : AreThose (IsOpenAtStore T) passed) (x : AreShut T labels closed) where
   there : (i : ℕ) → Has passed i → told_so T labels closed i ≡ true → IsOpenThroughout T labels i
-  there i has told = record { is_open = ((keep.just i).0 (x.are_open i has).0, o); all = λ j t l is_kept is_flush place. all j t l ((keep.just j).1 is_kept) is_flush place }
+  there i has told = record { is_open = (those.just i).0 has; all = λ j t l is_kept is_flush place. all j t l is_kept is_flush place }
     where
       o : IsOpenFlush T i
-      o = (x.are_open i has).1
+      o = ((those.just i).0 has).1
 
       p : Origin
       p = origin_of labels i o.thread
@@ -108,14 +87,11 @@ module _ (T : Recording) (labels : List (Option ℕ)) (kept passed : List ℕ) (
       off : has_place closed p ≡ false
       off = ap (is_closed closed) (sym (flush-place T labels i o.thread o.line o.is_flush)) ∙ not-true-false (is_closed closed (place_of labels i (event T i))) told
 
-      all : (j t l : ℕ) → Has kept j → IsAct T j (Flushes t l) → origin_of labels j t ≡ p → IsOpenFlush T j
-      all j t l within is_flush place = elim (x.each j t l within is_flush) [ inl o ↦ (x.are_open j o).1 | inr shut ↦ absurd (false≢true (sym off ∙ ap (has_place closed) (sym place) ∙ shut)) ]
+      all : (j t l : ℕ) → IsKept T j → IsAct T j (Flushes t l) → origin_of labels j t ≡ p → IsOpenFlush T j
+      all j t l is_kept is_flush place = elim (x.each j t l is_kept is_flush) [ inl open_so ↦ open_so | inr shut ↦ absurd (false≢true (sym off ∙ ap (has_place closed) (sym place) ∙ shut)) ]
 
   back : (i : ℕ) → IsOpenThroughout T labels i → Has passed i × (told_so T labels closed i ≡ true)
-  back i h = (
-    elim (x.each i o.thread o.line ((keep.just i).1 h.is_open.0) o.is_flush) [ inl passes ↦ passes | inr shut ↦ absurd (never shut) ],
-    ap (λ b. not b) (ap (is_closed closed) (flush-place T labels i o.thread o.line o.is_flush) ∙ not-true (has_place closed p) never),
-  )
+  back i h = ((those.just i).1 h.is_open, ap (λ b. not b) (ap (is_closed closed) (flush-place T labels i o.thread o.line o.is_flush) ∙ not-true (has_place closed p) never))
     where
       o : IsOpenFlush T i
       o = h.is_open.1
@@ -124,10 +100,10 @@ module _ (T : Recording) (labels : List (Option ℕ)) (kept passed : List ℕ) (
       p = origin_of labels i o.thread
 
       never : has_place closed p ≡ true → ⊥
-      never e = let f = x.shut p e in f.6 (h.all f.0 f.1 f.2 ((keep.just f.0).0 f.3) f.4 (sym f.5))
+      never e = let f = x.just p e in f.6 (h.all f.0 f.1 f.2 f.3 f.4 (sym f.5))
 
   pub told-those : (numbers : List ℕ) → numbers ≡ filter (told_so T labels closed) passed → AreThose (IsOpenThroughout T labels) numbers
   told-those numbers is = rw is (record {
-    rising = filter-rising (told_so T labels closed) 0 passed x.rising;
+    rising = filter-rising (told_so T labels closed) 0 passed those.rising;
     just = λ i. (λ h. let found = (filter-has (told_so T labels closed) passed i).0 h in there i found.0 found.1, λ h. (filter-has (told_so T labels closed) passed i).1 (back i h));
   })

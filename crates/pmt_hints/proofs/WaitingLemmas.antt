@@ -1,14 +1,12 @@
 -- Stores that come when their thread has nothing open.
-use Rattle.std.proofs.Common.{◌≡◌, ◌≢◌, ℕ, zero, suc, ◌<◌, ◌≤◌, ◌⊎◌, inl, inr, Bool, true, false, List, [], length, get_or, Option, None, Some, refl, sym, ap, subst, ◌∙◌, arith}
-use Rattle.std.specs.Prelude.{◌==◌, ◌&&◌, ◌||◌, not, replicate}
-use Rattle.std.proofs.lemmas.List.{get_or-replicate}
-use Rattle.std.proofs.lemmas.Option.{same_Some, slice_get-get_or, slice_get_within}
+use Rattle.std.proofs.Common.{◌≡◌, ℕ, zero, suc, ◌<◌, ◌≤◌, ◌⊎◌, inl, inr, Bool, true, false, List, [], Option, None, Some, refl, sym, ap, subst, ◌∙◌, arith}
+use Rattle.std.specs.Prelude.{◌==◌, ◌&&◌, ◌||◌, not}
 use Rattle.std.proofs.lemmas.Bool.{cases_lt, cases_eq, eq-eqb, ne_eqb, false≢true}
 use Rattle.pmt_laws.specs.Prelude.{Event, Act, Stores, Flushes, Clflushes, Fences, Asserts, Recording, IsAct, act, event}
 use Rattle.pmt_laws.proofs.Histories.{act-unique, act-within}
 use Rattle.pmt_hints.specs.declared.per_thread.PerThread.{PerThread}
 use Rattle.pmt_hints.specs.Contrasts.{StoresWhenClear, clear_by, clear_over, is_clear, stores_open}
-use Rattle.pmt_hints.specs.Hints.{AreFlags, AreThose, FencesBetween, IsOpenFlush, IsStoreBy, IsStoredAfterFlush}
+use Rattle.pmt_hints.specs.Hints.{AreThose, FencesBetween, IsOpenThroughout, IsStoreBy, IsStoredAfterFlush}
 use Rattle.pmt_hints.specs.Numbers.{of_thread}
 use Rattle.pmt_hints.proofs.StoredAfterLemmas.{own-store}
 
@@ -70,14 +68,10 @@ fenced-at : (T : Recording) → StoresWhenClear T → (t l m f s : ℕ) → IsAc
 fenced-at T all t l m f zero flush store before = absurd (omega (arith, before))
 fenced-at T all t l m f (suc k) flush store before = clear-fenced T t l k f (all k t m store) flush (omega (arith, before))
 
-pub none-flagged : (T : Recording) (n : ℕ) (flags : List Bool) → StoresWhenClear T → flags ≡ replicate n false → length flags ≡ n → AreFlags (IsOpenFlush T) n flags
-none-flagged T n flags all made size = record {
-  size = size;
-  each = λ k b at.
-      let within : k < length flags = slice_get_within flags k b at in
-      let own : b ≡ get_or flags k false = same_Some b (get_or flags k false) (sym at ∙ slice_get-get_or flags k false within) in
-      let off : b ≡ false = own ∙ ap (λ xs. get_or xs k false) made ∙ get_or-replicate n k false false (omega (arith, within, size)) in
-      (λ on. absurd (false≢true (sym off ∙ on)), λ h. absurd (h.still_open (fenced-at T all h.thread h.line h.elsewhere (suc k) h.store h.is_flush h.is_store h.later)));
+pub none-open : (T : Recording) (labels : List (Option ℕ)) → StoresWhenClear T → AreThose (IsOpenThroughout T labels) []
+none-open T labels all = record {
+  rising = tt;
+  just = λ i. (λ h. absurd h, λ h. let o = h.is_open.1 in absurd (o.still_open (fenced-at T all o.thread o.line o.elsewhere i o.store o.is_flush o.is_store o.later)));
 }
 
 pub none-stored : (T : Recording) → StoresWhenClear T → AreThose (IsStoredAfterFlush T) []

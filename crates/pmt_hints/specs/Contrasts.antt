@@ -1,9 +1,9 @@
 -- How often a place that stores to an address while a flush is open does so with nothing open.
-use Rattle.std.specs.Prelude.{◌≡◌, ◌≢◌, ℕ, suc, zero, ◌+◌, ◌-◌, ◌^◌, ◌<◌, ◌==◌, ◌&&◌, ◌||◌, Bool, true, false, not, if◌then◌else◌, nat_eq, List, length, map, Option, None, Some, unwrap_or, slice_get, slice_index_or}
+use Rattle.std.specs.Prelude.{◌≡◌, ◌≢◌, ◌⊎◌, ℕ, suc, zero, ◌+◌, ◌-◌, ◌^◌, ◌<◌, ◌==◌, ◌&&◌, ◌||◌, Bool, true, false, not, if◌then◌else◌, nat_eq, List, length, map, Option, None, Some, unwrap_or, slice_get, slice_index_or}
 use Rattle.std.specs.declared.hash.FoldHasher.{FoldHasher}
 use Rattle.std.specs.declared.hash.BuildHasherDefault.{BuildHasherDefault}
 use Rattle.std.specs.HashMap.{HashMap, get}
-use Rattle.pmt_laws.specs.Prelude.{Event, Op, Store, Layout, Act, Stores, Flushes, Clflushes, Fences, Asserts, Recording, IsAct, act, event, list_any, Clwb, ClflushOpt, Clflush, Sfence, Mfence, IsPersist, IsOrderedBefore}
+use Rattle.pmt_laws.specs.Prelude.{Event, Op, Store, Layout, Act, Stores, Flushes, Clflushes, Fences, Asserts, Recording, IsAct, IsKept, act, event, list_any, Clwb, ClflushOpt, Clflush, Sfence, Mfence, IsPersist, IsOrderedBefore}
 use Rattle.pmt_explain.specs.Following.{IsFirst, past_of}
 use Rattle.pmt_causes.specs.declared.failure_keys.Origin.{Origin}
 use Rattle.pmt_causes.specs.declared.failure_keys.Origin.TheVariants.{Label, Thread}
@@ -15,7 +15,7 @@ use Rattle.pmt_hints.specs.declared.hint.HintKind.{HintKind}
 use Rattle.pmt_hints.specs.declared.hint.HintKind.TheVariants.{OpenAtStore}
 use Rattle.pmt_hints.specs.declared.next_stores.NextStores.{NextStores}
 use Rattle.pmt_hints.specs.declared.per_thread.PerThread.{PerThread}
-use Rattle.pmt_hints.specs.Hints.{IsStoreBy}
+use Rattle.pmt_hints.specs.Hints.{IsOpenFlush, IsStoreBy}
 use Rattle.pmt_hints.specs.Numbers.{elsewhere_at, of_thread}
 use Rattle.pmt_hints.specs.declared.places.Places.{Places}
 use Rattle.pmt_causes.specs.contracts.failure_keys.OriginPartialEq.TheImpl as origin_eq
@@ -188,6 +188,11 @@ is_place p (Some q) = (origin_eq.ghosts).eq q p
 -- These are the places of the flushes with these numbers.
 abbrev pub AreClosed : Recording → List (Option ℕ) → List ℕ → Places → Type 0
 AreClosed T labels numbers closed = (p : Origin) → has_place closed p ≡ list_any (λ (i : ℕ). is_place p (place_of labels i (event T i))) numbers
+
+-- These are the places of kept flushes that are not open at a store.
+pub record AreShut (T : Recording) (labels : List (Option ℕ)) (closed : Places) : Type 0 where
+  pub just : (p : Origin) → has_place closed p ≡ true → (j : ℕ) × (t : ℕ) × (l : ℕ) × IsKept T j × IsAct T j (Flushes t l) × (p ≡ origin_of labels j t) × (¬ IsOpenFlush T j)
+  pub each : (j t l : ℕ) → IsKept T j → IsAct T j (Flushes t l) → IsOpenFlush T j ⊎ (has_place closed (origin_of labels j t) ≡ true)
 
 abbrev pub is_closed : Places → Option Origin → Bool
 is_closed closed None = false

@@ -1,5 +1,5 @@
 -- Numbers of threads, and of lines by threads, and how one event changes them.
-use Rattle.std.specs.Prelude.{ℕ, ◌==◌, if◌then◌else◌, slice_index, unwrap_or, ◌≡◌, ◌≢◌, ◌<◌, ◌&&◌, Bool, false, not, nat_lt, List, Option, None, Some}
+use Rattle.std.specs.Prelude.{ℕ, ◌==◌, if◌then◌else◌, slice_index, unwrap_or, ◌≡◌, ◌≢◌, ◌<◌, ◌&&◌, Bool, false, not, ◌-◌, nat_le, nat_lt, List, Option, None, Some}
 use Rattle.std.specs.declared.hash.FoldHasher.{FoldHasher}
 use Rattle.std.specs.declared.hash.BuildHasherDefault.{BuildHasherDefault}
 use Rattle.std.specs.HashMap.{HashMap, get}
@@ -106,10 +106,10 @@ abbrev pub any_store_by : Act → ℕ → ℕ → ℕ → ℕ → ℕ
 any_store_by (Stores l w) u number t old = if u == t then number else old
 any_store_by a u number t old = old
 
--- By the last fences and flushes before it: the act by thread t is a store to a line with an open flush.
-abbrev pub after_open : PerThread → LastFlushes → ℕ → Act → Bool
-after_open fences flushes t (Stores l w) = nat_lt (of_thread fences t) (flush_at flushes t l)
-after_open fences flushes t a = false
+-- By the next own fences of all events and the last flushes before it: act i by thread t is a store to a line with an open flush.
+abbrev pub after_open : List ℕ → LastFlushes → ℕ → Act → ℕ → Bool
+after_open fences flushes i (Stores l w) t = nat_le 1 (flush_at flushes t l) && nat_lt i (slice_index fences (flush_at flushes t l - 1))
+after_open fences flushes i a t = false
 
 -- The next store of thread t to another line than l, once the act with this number by thread u is met.
 abbrev pub store_by : Act → ℕ → ℕ → ℕ → ℕ → ℕ → ℕ

@@ -1,20 +1,20 @@
 //! Flushes that their thread has not fenced when it stores to another line.
 
-ghost use Rattle.std.specs.Prelude.{◌≡◌, ◌<◌, ℕ, None, true, if◌then◌else◌, length, not, filter, IfOk, OnOk};
-ghost use Rattle.pmt_model.specs.Traces.{act_of, event};
+ghost use Rattle.std.specs.Prelude.{◌≡◌, ◌<◌, ℕ, None, true, false, if◌then◌else◌, filter, reverse, IfOk};
+ghost use Rattle.pmt_model.specs.Traces.{act_of};
 ghost use Rattle.pmt_model.specs.Analyses.{IsVerdicts};
 ghost use Rattle.pmt_model.specs.Keeping.{IsKeep};
-ghost use Rattle.pmt_tables.specs.Flags.{is_kept_at};
-ghost use Rattle.pmt_hints.specs.Hints.{AreThose, IsOpenAtStore, IsOpenFlush, IsOpenThroughout, IsToldOnPath, IsToldOpen, AreFlags};
+ghost use Rattle.pmt_hints.specs.Hints.{AreThose, IsOpenAtStore, IsOpenThroughout, IsToldOnPath, IsToldOpen};
 ghost use Rattle.pmt_hints.specs.Numbers.{open_so};
-ghost use Rattle.pmt_hints.specs.Contrasts.{AreClosed, is_closed as is_closed_in, place_of, told_so};
+ghost use Rattle.pmt_hints.specs.Contrasts.{AreClosed, AreShut, has_place, is_closed as is_closed_in, op_place as op_place_in, told_so};
+ghost use Rattle.pmt_causes.specs.declared.failure_keys.Origin.{Origin};
 
 use crate::claims::excused_flushes;
 use crate::named::claimed_stores;
 use crate::next_stores::NextStores;
-use crate::numbers::{is_flagged, selection_of};
+use crate::numbers::{push_if, selection_of};
 use crate::per_thread::PerThread;
-use crate::places::{Places, flush_place};
+use crate::places::{Places, flush_place, op_place};
 use crate::waiting::has_store_while_open;
 use pmt_causes::Origin;
 use pmt_model::{Format, Op, OutOfMemory, Selection, Trace, Verdict, line_of};
@@ -23,7 +23,7 @@ use std::alloc::Global;
 /// The flushes that are kept, and that their thread has not fenced when it stores to another line: what it stores there may persist
 /// before what was flushed. `kept` is what is kept of the trace.
 ///
-/// It takes one look at each event, and one at each that is kept.
+/// It takes one look at each event that is kept.
 ///
 /// # Errors
 /// Where memory was refused.
@@ -35,8 +35,8 @@ pub fn open_at_store(
     requires { IsKeep trace.now kept.now }
     ensures { IfOk result (AreThose (IsOpenAtStore trace.now)) }
 {
-    let flags = open_flags(alloc, trace)?;
-    let open = flagged(alloc, kept.numbers(), flags.as_slice())?;
+    let mut closed = Places::new(alloc, &[])?;
+    let open = open_numbers(alloc, trace, &[], kept.numbers(), &mut closed)?;
     Ok(selection_of(open))
 }
 
@@ -44,9 +44,9 @@ pub fn open_at_store(
 /// to its line is claimed, and no flush of the line that is kept comes between the two. `labels` are the numbers of the labels of the
 /// events, in order; an event past their end has none. A place is a label, or without one a thread. `verdicts` are those of the trace.
 ///
-/// It takes one look at each event, and one at each that is kept. Where one of these flushes is kept, it takes two more at each event that
-/// is kept, and a label that is above the number of `labels` takes a look-up at each of its flushes. Where there is such a place, it takes
-/// what `claimed_stores` takes, and up to two look-ups at each store that is claimed and at each flush that is kept.
+/// It takes one look at each event until a thread stores while it has a flush open. If one does, it takes one at each event that is kept,
+/// and another one at each of these flushes, and a label that is above the number of `labels` takes a look-up at each flush. Where there is
+/// such a place, it takes what `claimed_stores` takes, and up to two look-ups at each store that is claimed and at each flush that is kept.
 ///
 /// # Errors
 /// Where memory was refused.
@@ -125,50 +125,70 @@ fn open_throughout(
     requires { IsKeep trace.now kept.now }
     ensures { IfOk result (AreThose (IsOpenThroughout trace.now labels.now)) }
 {
-    let flags = open_flags(alloc, trace)?;
-    let flags = flags.as_slice();
-    let numbers = kept.numbers();
-    let open = flagged(alloc, numbers, flags)?;
-    if open.is_empty() {
-        return Ok(selection_of(open));
+    if !has_store_while_open(trace) {
+        return Ok(selection_of(Vec::new(alloc)));
     }
-    let closed = places_but(alloc, trace, labels, numbers, flags)?;
+    let mut closed = Places::new(alloc, labels)?;
+    let open = open_numbers(alloc, trace, labels, kept.numbers(), &mut closed)?;
     let told = told_numbers(alloc, trace, labels, open.as_slice(), &closed)?;
     Ok(selection_of(told))
 }
 
-// The places of those of these flushes that are not flagged.
-fn places_but(
+// The flushes that are open at a store, of these numbers of what is kept. The places of the others are closed.
+fn open_numbers(
     alloc: Global,
     trace: &Trace,
     labels: &[Option<u64>],
     numbers: &[u64],
-    flags: &[bool],
-) -> Result<Places, OutOfMemory>
-    ensures { IfOk result (AreClosed trace.now labels.now (filter (λ i. not (is_kept_at flags.now i)) numbers.now)) }
+    closed: &mut Places,
+) -> Result<Vec<u64>, OutOfMemory>
+    requires keep { IsKeep trace.now numbers.now }
+    requires none { (p : Origin) → has_place closed.old p ≡ false }
+    ensures those { IfOk result (λ these. AreThose (IsOpenAtStore trace.now) these.items) }
+    ensures closed { IfOk result (λ these. AreShut trace.now labels.now closed.new) }
 {
-    let mut closed = Places::new(alloc, labels)?;
-    for number in numbers {
-        closed.add(place_unless(flags, trace, labels, *number))?;
+    let format = trace.format();
+    let events = trace.events();
+    let past = events.len() as u64 + 1;
+    let mut fences = PerThread::new(past);
+    let mut stores = NextStores::new(past);
+    let mut open = Vec::new(alloc);
+    for index in (0..numbers.len()).rev() {
+        let number = numbers[index];
+        let before = number - 1;
+        let event = events[before as usize];
+        let is_open = is_open(&fences, &stores, format, event.thread, event.op);
+        push_if(&mut open, is_open, number)?;
+        closed.add(place_unless(is_open, labels, number, event.thread, event.op))?;
+        fences.note_fence(format, event.thread, event.op, number);
+        stores.note(format, event.thread, event.op, number);
     }
-    Ok(closed)
+    backwards(alloc, open.as_slice())
 }
 
-// The place of the flush with this number, unless it is flagged.
+// The place of the op with this number, if it is a flush, unless that is open.
 #[inline(always)]
 fn place_unless(
-    flags: &[bool],
-    trace: &Trace,
+    is_open: bool,
     labels: &[Option<u64>],
     number: u64,
+    thread: u8,
+    op: Op,
 ) -> Option<Origin>
-    ensures { result ≡ (if is_kept_at flags.now number then None else place_of labels.now number (event trace.now number)) }
+    ensures { result ≡ (if is_open then None else op_place_in labels.now number thread op) }
 {
-    if is_flagged(flags, number) {
+    if is_open {
         None
     } else {
-        flush_place(trace, labels, number)
+        op_place(labels, number, thread, op)
     }
+}
+
+// These numbers, the last one first.
+fn backwards(alloc: Global, numbers: &[u64]) -> Result<Vec<u64>, OutOfMemory>
+    ensures { IfOk result (λ turned. turned.items ≡ reverse numbers.now) }
+{
+    numbers.iter().rev().copied().collect(alloc)
 }
 
 // The places of these flushes.
@@ -220,49 +240,6 @@ fn is_closed(closed: &Places, place: Option<Origin>) -> bool
         None => false,
         Some(place) => closed.has(place),
     }
-}
-
-// Those of these numbers whose events are flagged.
-fn flagged(alloc: Global, numbers: &[u64], flags: &[bool]) -> Result<Vec<u64>, OutOfMemory>
-    ensures { IfOk result (λ chosen. chosen.items ≡ filter (is_kept_at flags.now) numbers.now) }
-{
-    numbers
-        .iter()
-        .filter(|number| is_flagged(flags, **number))
-        .copied()
-        .collect(alloc)
-}
-
-// Of each event whether it is a flush that its thread has not fenced when it stores to another line.
-fn open_flags(alloc: Global, trace: &Trace) -> Result<Vec<bool>, OutOfMemory>
-    ensures { IfOk result (λ flags. AreFlags (IsOpenFlush trace.now) (length trace.now.events) flags.items) }
-{
-    if has_store_while_open(trace) {
-        return all_open(alloc, trace);
-    }
-    let flags = vec![in alloc; false; trace.len()]?;
-    Ok(flags)
-}
-
-// The same, by what each thread does next.
-fn all_open(alloc: Global, trace: &Trace) -> Result<Vec<bool>, OutOfMemory>
-    ensures { IfOk result (λ flags. AreFlags (IsOpenFlush trace.now) (length trace.now.events) flags.items) }
-{
-    let format = trace.format();
-    let events = trace.events();
-    let past = events.len() as u64 + 1;
-    let mut fences = PerThread::new(past);
-    let mut stores = NextStores::new(past);
-    let mut flags = vec![in alloc; false; events.len()]?;
-    for index in (0..events.len()).rev() {
-        let event = events[index];
-        let number = index as u64 + 1;
-        let flag = is_open(&fences, &stores, format, event.thread, event.op);
-        flags[index] = flag;
-        fences.note_fence(format, event.thread, event.op, number);
-        stores.note(format, event.thread, event.op, number);
-    }
-    Ok(flags)
 }
 
 // Whether the op is a flush and the next store of its thread to another line comes before that thread's next fence.
