@@ -6,6 +6,8 @@ import shlex
 import subprocess
 import unicodedata
 
+from placed import LEAST
+
 LINES, WIDTH = 24, 100
 # So many causes of failed assertions are told in full.
 FEW = 10
@@ -19,6 +21,7 @@ ROW = re.compile(rf" {{4,}}(?P<event>\d+) (?P<word>{WORDS})(?: (?P<address>0x[0-
 RANK = re.compile(r"(\d+)\. ")
 LEFT = re.compile(r"   \.\. (\d+) more \(--limit all\)$")
 STORY = 6
+HABIT = re.compile(r"([\d,]+) of the ([\d,]+) stores there to 0x[0-9a-f]+ come with a flush unfenced(: a habit)?")
 # A slip concerns one in so many stores at most, and what comes again and again comes so often.
 SLIP, AGAIN = 3, 10
 
@@ -195,6 +198,23 @@ def wrong_volatile(screen):
     return f"not volatile: {wrong or screen.volatile}" if wrong or screen.volatile and not is_much else None
 
 
+def wrong_habits(screen):
+    """A habit of fewer than three stores, or from which one of them departs; or one that is not told."""
+    for late, stores, told in HABIT.findall(" ".join(screen.text.split())):
+        if bool(told) != (late == stores and int(stores.replace(",", "")) >= LEAST):
+            return f"a habit, or none: {late} of {stores}"
+    return None
+
+
+def wrong_ranges(screen):
+    """Ranges of crashes that meet, or do not rise."""
+    for places in re.findall(r"pmtrim-replay --at (\S+)", " ".join(screen.text.split())):
+        ends = [[int(end) for end in place.split("-")] for place in places.split(",")]
+        if any(after <= before + 1 for (_, before), (after, _) in zip(ends, ends[1:])):
+            return f"ranges that meet: {places}"
+    return None
+
+
 def next_of(screen):
     """The command behind `next:`; none if there is none."""
     text = "\n".join(screen.lines)
@@ -209,5 +229,6 @@ def wrong_screen(screen):
         return f"no verdict, or wide: {wide}, in\n{screen.text}"
     if bool(next_of(screen)) != bool(screen.summary["stores"]):
         return f"next: {next_of(screen)}, in\n{screen.text}"
-    wrong = wrong_rows(screen) or wrong_entries(screen) or wrong_meant(screen) or wrong_volatile(screen)
+    checks = (wrong_rows, wrong_entries, wrong_meant, wrong_volatile, wrong_habits, wrong_ranges)
+    wrong = next(filter(None, (check(screen) for check in checks)), None)
     return f"{wrong}, in\n{screen.text}" if wrong else None

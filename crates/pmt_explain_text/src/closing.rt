@@ -19,7 +19,6 @@ pub(crate) fn push_closing(pen: &mut Pen, told: &Telling<'_>, entries: &Shown<'_
     if counts.stores > 0 {
         push_next(pen, told, entries)?;
     }
-    push_recorded(pen, told, counts);
     push_idle(pen, told);
     push_source_note(pen, told);
     push_size(pen, told, counts);
@@ -41,14 +40,11 @@ fn push_next(pen: &mut Pen, told: &Telling<'_>, entries: &Shown<'_>) -> Made<()>
     } else {
         let first = entries.entries.first().and_then(|entry| entry.crashes);
         let few = entries.entries.iter().take(FEW).filter(|_| first.is_some());
-        let crashes: Vec<Crashes> = few.filter_map(|entry| entry.crashes).collect(told.alloc)?;
-        let of_these = first.is_some();
+        let mut crashes: Vec<Crashes> = few.filter_map(|entry| entry.crashes).collect(told.alloc)?;
+        crashes.sort_unstable_by_key(|crash| crash.from);
+        let all = crashes.is_empty();
         pen.put("next: run your recovery on each ");
-        pen.put(if of_these {
-            "of these crashes"
-        } else {
-            "crash"
-        });
+        pen.put(if all { "crash" } else { "of these crashes" });
         pen.put(" (recorded with --base):\n  ");
         push_replay(pen, told, crashes.as_slice());
     }
@@ -57,7 +53,7 @@ fn push_next(pen: &mut Pen, told: &Telling<'_>, entries: &Shown<'_>) -> Made<()>
 }
 
 // Adds what the trace may lack of its run: flushes, labels, and claims of several threads.
-fn push_recorded(pen: &mut Pen, told: &Telling<'_>, counts: &Summary) {
+pub(crate) fn push_recorded(pen: &mut Pen, told: &Telling<'_>, counts: &Summary) {
     if counts.events == 0 {
         pen.put("No events: was the recorder on, and of which file?\n");
     } else if counts.flushes == 0 {

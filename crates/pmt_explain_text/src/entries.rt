@@ -28,10 +28,8 @@ pub(crate) fn shown_entries<'a>(told: &Telling<'a>, are_meant: bool) -> Made<Sho
     let limit = told.explanation.limit;
     let is_screen = told.screen.rows.is_some();
     let most = if is_screen { MOST.min(limit) } else { limit };
-    let mut found = Shown {
-        entries: Vec::new(told.alloc),
-        total: 0,
-    };
+    let entries = Vec::new(told.alloc);
+    let mut found = Shown { entries, total: 0 };
     let mut asked = HashSet::new(told.alloc);
     // How many of the next entries stand in the one before.
     let mut within = 0usize;

@@ -72,12 +72,20 @@ fn push_claimed(pen: &mut Pen, told: &Telling<'_>, first: &Site, sites: &[Site])
     push_replay(pen, told, &[Crashes { from, to }]);
 }
 
-// Adds the command that runs recovery on crashes, on these if some are named.
+// Adds the command that runs recovery on crashes: on these, by rising events, if some are named. Those that meet are one range.
 pub(crate) fn push_replay(pen: &mut Pen, told: &Telling<'_>, crashes: &[Crashes]) {
     pen.put("pmtrim-replay");
-    for (index, Crashes { from, to }) in crashes.iter().enumerate() {
-        pen.put(if index == 0 { " --at " } else { "," });
-        pen.fill("#-#", &[*from, *to]);
+    let mut end: Option<u64> = None;
+    for Crashes { from, to } in crashes {
+        match end {
+            None => pen.fill(" --at #", &[*from]),
+            Some(end) if end.saturating_add(1) < *from => pen.fill("-#,#", &[end, *from]),
+            Some(_) => {}
+        }
+        end = Some(end.unwrap_or(0).max(*to));
+    }
+    if let Some(end) = end {
+        pen.fill("-#", &[end]);
     }
     push_trace(pen, told);
     pen.put(" -- YOUR_CHECKER {}");

@@ -82,10 +82,8 @@ pub(crate) fn cells_of(told: &Telling<'_>, assertion: u64, after: &RangeAfter) -
     let mut cells = Vec::with_capacity(told.alloc, after.bytes.len())?;
     for (byte, store) in after.bytes.iter().zip(last.iter()) {
         let kept = byte.last.map(|stored| stored.store);
-        cells.push(Cell {
-            byte: *byte,
-            lost: if *store == kept { None } else { *store },
-        })?;
+        let lost = if *store == kept { None } else { *store };
+        cells.push(Cell { byte: *byte, lost })?;
     }
     Ok(cells)
 }

@@ -1,6 +1,6 @@
 //! The text for people: what stands where, and how much of it has room.
 
-use crate::closing::push_closing;
+use crate::closing::{push_closing, push_recorded};
 use crate::covered::push_not_covered;
 use crate::entries::{Shown, shown_entries};
 use crate::in_full::push_failure_in_full;
@@ -104,6 +104,11 @@ fn push_screen(pen: &mut Pen, told: &Telling<'_>) -> Made<()> {
     push_small(&mut small, told, &counts)?;
     if body.has_room(&small, 0) {
         body.add(&small);
+    }
+    let mut notes = Pen::new(told.alloc);
+    push_recorded(&mut notes, told, &counts);
+    if body.has_room(&notes, 0) {
+        body.add(&notes);
     }
     body.add(&closing);
     push_text(pen, &body.pen);

@@ -8,7 +8,7 @@ use pmt_telling::{Telling, Told, pen_of, push_text, push_wrapped};
 // The columns before the further lines of the verdict.
 const FURTHER: u64 = 4;
 
-const NOT_CHECKED: &str = "; no assertions, so order is not checked";
+const NOT_CHECKED: &str = "; no assertions: order unchecked";
 
 // Adds the verdict on the trace, with its first entry.
 pub(crate) fn push_verdict(pen: &mut Pen, told: &Telling<'_>, first: Option<&Told<'_>>) {

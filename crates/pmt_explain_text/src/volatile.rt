@@ -86,11 +86,9 @@ pub(crate) fn is_volatile(told: &Telling<'_>, entry: Entry) -> bool {
         let site = entries.sites.get(*member as usize);
         site.is_some_and(|site| told.volatile.contains(&site.row.place))
     };
-    match entry.subject {
-        Subject::Loss(index) => {
-            let loss = entries.losses.get(index as usize);
-            loss.is_some_and(|loss| loss.members.iter().all(is_told))
-        }
-        _ => false,
-    }
+    let Subject::Loss(index) = entry.subject else {
+        return false;
+    };
+    let loss = entries.losses.get(index as usize);
+    loss.is_some_and(|loss| loss.members.iter().all(is_told))
 }

@@ -2,7 +2,7 @@
 
 use crate::contrast::{add_failing_call, push_share};
 use crate::losses::sign_of;
-use crate::partners::{IN_VAIN, Saving, early_flush, flush_about, is_stray, saving_of};
+use crate::partners::{IN_VAIN, Saving, early_flush, flush_after, is_stray, saving_of};
 use crate::sites::{push_site, push_spot, site_frame};
 use crate::telling::{Made, NEAR, Telling};
 use crate::told::Told;
@@ -33,13 +33,8 @@ pub fn failure_entry<'a>(told: &Telling<'a>, at: u64, count: usize, whole: bool)
     if whole {
         add_failing_call(&mut entry, told, shown.event);
     }
-    if early_for_lost(told, &shown).is_some() {
-        entry.aside(pen_of(told.alloc, STORED_AFTER));
-    } else if loses_last_line(told, &shown) {
-        entry.aside(pen_of(told.alloc, LAST_LINE));
-    }
-    add_missed(&mut entry, told, shown.failure.lost.store);
     add_story(&mut entry, told, &shown, saving);
+    add_missed(&mut entry, told, shown.failure.lost.store);
     match early {
         Some(saves) => tell_publishing(&mut entry, told, &shown, saves),
         None => tell_fix(&mut entry, told, shown.mend),
@@ -135,10 +130,9 @@ fn early_for_lost(told: &Telling<'_>, shown: &ShownFailure) -> Option<u64> {
     flush.filter(|_| matches!(shown.cause, Cause::Unflushed))
 }
 
-const LAST_LINE: &str =
-    "the last cache line of the range is lost: does the flush end one line short?";
+const LAST_LINE: &str = "the range's last cache line is lost: does the flush end one line short?";
 
-// Whether the assertion loses the last of several cache lines of its range, which its thread does not flush about then.
+// Whether the assertion loses the last of several cache lines of its range, which its thread does not flush by its next fence.
 fn loses_last_line(told: &Telling<'_>, shown: &ShownFailure) -> bool {
     let Some(range) = told.first_range(shown.event) else {
         return false;
@@ -146,13 +140,10 @@ fn loses_last_line(told: &Telling<'_>, shown: &ShownFailure) -> bool {
     let size = told.trace.format().line_size();
     let last = range.end.saturating_sub(1) / size;
     let lost = shown.failure.lost;
-    range.start / size < last
-        && lost.byte / size == last
-        && matches!(shown.cause, Cause::Unflushed)
-        && flush_about(told, lost.store).is_none()
+    range.start / size < last && lost.byte / size == last && flush_after(told, lost.store).is_none()
 }
 
-// Adds the events that tell why the store is lost.
+// Adds the events that tell why the store is lost, and what may be wrong with a flush: where it stands, its length, or its address.
 fn add_story(entry: &mut Told<'_>, told: &Telling<'_>, shown: &ShownFailure, saving: Saving) {
     let kept = shown.failure.kept.map(|kept| kept.store);
     let claim = match kept {
@@ -166,8 +157,13 @@ fn add_story(entry: &mut Told<'_>, told: &Telling<'_>, shown: &ShownFailure, sav
         Cause::Later => return,
         Cause::Unflushed => {
             let lost = shown.failure.lost.store;
-            let early = early_for_lost(told, shown);
+            let early = early_flush(told, lost);
             entry.row(early, "before the store: too early");
+            if early.is_some() {
+                entry.aside(pen_of(told.alloc, STORED_AFTER));
+            } else if loses_last_line(told, shown) {
+                entry.aside(pen_of(told.alloc, LAST_LINE));
+            }
             let mut near = lost..shown.event.min(lost.saturating_add(NEAR));
             let stray = near.find(|number| is_stray(told, lost, *number));
             entry.row(stray.filter(|_| early.is_none()), IN_VAIN);
@@ -239,15 +235,12 @@ fn push_between(pen: &mut Pen, told: &Telling<'_>, after: u64, before: Option<u6
 
 // Adds when to flush, and to fence if the thread does not do so in time.
 pub(crate) fn push_flush_when(pen: &mut Pen, told: &Telling<'_>, after: u64, before: Option<u64>) {
-    let fence = told.next_fence(after);
-    match fence.filter(|fence| *fence < before.unwrap_or(u64::MAX)) {
-        Some(fence) => {
-            let numbers = [after, fence];
-            told.say(pen, " after $, before the fence of event #", &numbers);
-        }
-        None => {
-            pen.put(" and fence,");
-            push_between(pen, told, after, before);
-        }
+    let fence = told.next_fence(after).unwrap_or(u64::MAX);
+    if fence < before.unwrap_or(u64::MAX) {
+        told.say(pen, " after $, before the next fence", &[after]);
+        push_thread(pen, told, told.thread(after));
+    } else {
+        pen.put(" and fence,");
+        push_between(pen, told, after, before);
     }
 }

@@ -4,6 +4,7 @@ use crate::failures::push_flush_when;
 use crate::partners::{flushed_store, mark_of, partner_of};
 use crate::sites::{push_call, push_site};
 use crate::{Crashes, Telling, Told};
+use pmt_fates::LEAST_EVENTS;
 use pmt_hints::{Contrast, Hint, HintKind};
 use pmt_pen::Pen;
 
@@ -40,7 +41,7 @@ pub fn hint_entry<'a>(told: &Telling<'a>, index: u64) -> Told<'a> {
 /// Adds what the hint tells, where, and how often.
 pub fn push_head(pen: &mut Pen, told: &Telling<'_>, hint: &Hint) {
     let form = match hint.kind {
-        HintKind::OpenAtStore => "no fence between the flush and the next store (*), at ",
+        HintKind::OpenAtStore => "% flush~ with no fence before the next store, at ",
         HintKind::StoredAfterFlush => "a store comes after the flush of its cache line (*), at ",
         HintKind::OneLineShort => "the flush ends one cache line short (*), at ",
         HintKind::SplitWord =>
@@ -94,19 +95,19 @@ fn tell_open<'a>(entry: &mut Told<'a>, told: &Telling<'a>, hint: &Hint, counts: 
     entry.fix.fill(form, &[flush, store]);
 }
 
-const HABIT: &str =
-    ": a habit, and fine if recovery trusts no such store before the fence that follows";
+const HABIT: &str = ": a habit, fine if recovery trusts no such store before the next fence";
 
-// Adds at how many stores to the same address a flush waits for its fence, if there are others.
+// Adds how many stores to the same address come while a flush waits for its fence, if there are others; so many without exception are a habit.
 fn push_contrast(pen: &mut Pen, told: &Telling<'_>, store: u64, contrast: Option<Contrast>) {
     let Some(Contrast { clear, all }) = contrast.filter(|contrast| contrast.all > 1) else {
         return;
     };
     pen.put(if pen.len() > 0 { "; " } else { "" });
     let open = all.saturating_sub(clear);
-    let form = "a flush waits for its fence at % of the % stores there, to @";
+    let form = "% of the % stores there to @ come with a flush unfenced";
     told.say(pen, form, &[open, all, told.address(store).unwrap_or(0)]);
-    pen.put(if clear == 0 { HABIT } else { "" });
+    let is_habit = clear == 0 && all >= LEAST_EVENTS;
+    pen.put(if is_habit { HABIT } else { "" });
 }
 
 // Tells of a store that comes after the flush of its line.

@@ -66,8 +66,8 @@ pub(crate) fn add_story(
         push_site(&mut entry.site, told, told.origin(flush));
     }
     add_rows(told, &shown, entry);
-    push_fix(&mut entry.fix, told, &shown);
-    entry.edited = Some(shown.last);
+    tell_fix(entry, told, &shown);
+    entry.row(entry.edited, "the last of them");
     entry.crashes = crashes_of(told, &shown);
     Ok(())
 }
@@ -186,28 +186,32 @@ fn note_of(told: &Telling<'_>, shown: &Shown, number: u64, part: StorePart) -> P
     told.said(form, &[told.waited(number)])
 }
 
-// Adds what saves the store in time.
-fn push_fix(pen: &mut Pen, told: &Telling<'_>, shown: &Shown) {
+// Tells what saves the store in time, and at which event: the flush that does not, or the last store that is missed.
+fn tell_fix(entry: &mut Told<'_>, told: &Telling<'_>, shown: &Shown) {
     let lines = shown.lines.as_slice();
-    match shown.why {
+    let pen = &mut entry.fix;
+    entry.edited = match shown.why {
         Why::NeverFenced(flush) | Why::FencedLate(flush) => {
             let numbers = [told.thread(flush) as u64, flush];
             told.say(pen, "fence by thread # after $", &numbers);
+            entry.edited = Some(flush);
             return;
         }
         Why::Short(flush) => {
             push_site(pen, told, told.origin(flush));
             pen.put(" must flush all that is stored: also ");
             push_lines(pen, told, lines);
+            Some(flush)
         }
         Why::AfterFlush(_) | Why::NeverFlushed | Why::FlushedLate => {
             pen.put("flush ");
             push_lines(pen, told, lines);
             told.say(pen, " after $", &[shown.last]);
+            Some(shown.last)
         }
-    }
+    };
     if shown.fence < told.end() {
-        pen.fill(", before the fence of event #", &[shown.fence]);
+        pen.fill(", before event #", &[shown.fence]);
     } else {
         pen.put(", and fence");
     }

@@ -40,19 +40,24 @@ fn goes_with(told: &Telling<'_>, hint: &Hint, other: u64) -> bool {
         }
 }
 
-// The last flush of the store's cache line that its thread makes between its fences about the store, if it stands near.
-pub(crate) fn flush_about(told: &Telling<'_>, store: u64) -> Option<u64> {
-    let thread = told.thread(store);
-    let next = told.next_fence(store).unwrap_or(store.saturating_add(NEAR));
-    let near = (store.saturating_sub(NEAR)..next).rev();
-    let own = near.filter(|number| told.thread(*number) == thread);
-    let mut about = own.take_while(|number| !told.is_fence(*number));
-    about.find(|number| told.is_flush(*number) && told.line(*number) == told.line(store))
+// Whether the event is one of the store's thread: a flush of the store's cache line, or a fence.
+fn is_about(told: &Telling<'_>, store: u64, number: u64) -> bool {
+    let is_flush = told.is_flush(number) && told.line(number) == told.line(store);
+    (is_flush || told.is_fence(number)) && told.thread(number) == told.thread(store)
 }
 
-// That flush, if it comes before the store, and so too early for it.
+// The first flush of the store's cache line that its thread makes after it and by its next fence, if it stands near.
+pub(crate) fn flush_after(told: &Telling<'_>, store: u64) -> Option<u64> {
+    let mut near = store..store.saturating_add(NEAR);
+    let found = near.find(|number| is_about(told, store, *number));
+    found.filter(|number| told.is_flush(*number))
+}
+
+// The last flush of the line that the thread makes before the store and after its fence before, if none follows: it is too early for the store.
 pub(crate) fn early_flush(told: &Telling<'_>, store: u64) -> Option<u64> {
-    flush_about(told, store).filter(|flush| *flush < store)
+    let mut near = (store.saturating_sub(NEAR)..store).rev();
+    let found = near.find(|number| is_about(told, store, *number));
+    found.filter(|number| told.is_flush(*number) && flush_after(told, store).is_none())
 }
 
 // The last store to the line of the flush before it, if it stands near.
@@ -120,10 +125,8 @@ pub(crate) fn saving_of(told: &Telling<'_>, store: u64, is_asked: bool) -> Made<
         let saves = numbers.find(|number| matches!(story.part(**number), StorePart::Saves));
         saves.copied()
     });
-    Ok(Saving {
-        flush: story.and_then(|story| story.flush()),
-        saves,
-    })
+    let flush = story.and_then(|story| story.flush());
+    Ok(Saving { flush, saves })
 }
 
 // Whether the event is a flush of another line than the store's that does nothing, by its thread and of the same function or what it calls,
@@ -148,9 +151,8 @@ pub(crate) const IN_VAIN: &str = "flushes another line, in vain";
 
 // Whether the flush does nothing: then its address may be wrong.
 fn is_idle(told: &Telling<'_>, flush: u64) -> bool {
-    let dropped = told.explanation.dropped.as_slice();
-    let found = dropped.binary_search_by_key(&flush, |dropped| dropped.event);
-    found.is_ok()
+    let idle = told.explanation.dropped.as_slice();
+    idle.binary_search_by_key(&flush, |one| one.event).is_ok()
 }
 
 // The function of the frame at this depth; nothing where there is none.

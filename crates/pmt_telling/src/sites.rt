@@ -7,7 +7,7 @@ use pmt_causes::Origin;
 use pmt_pen::Pen;
 
 // The most sites that are named.
-const NAMED: usize = 6;
+const NAMED: usize = 9;
 
 // What stands between two frames of a label.
 const CALLED_BY: &str = " < ";
